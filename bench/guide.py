@@ -485,7 +485,7 @@ def rounding_rows():
 def main():
     # It takes the fields from here.
     sys.modules["guide"] = sys.modules[__name__]
-    import package
+    import fluxes_and_noise
 
     os.environ["MAXDETECT"] = os.fspath(pathlib.Path(sys.argv[1]).resolve())
     if not sep:
@@ -540,7 +540,7 @@ def main():
         ["core", "options", "found", "pieces beside each", "median distance of centres, in thousandths of a pixel"],
         saturated_rows(),
     )
-    package.tables(table)
+    fluxes_and_noise.tables(table)
     if "--check" in sys.argv[2:]:
         differing = list(differing_rows()) if sep else ["the guide's tables can't be compared without SEP"]
         print("\n" + "\n".join(differing or ["the guide's tables have these figures"]))

@@ -4,8 +4,9 @@ usage: python3 scripts/definitions.py [WORD..]      those of a crate or with a n
        python3 scripts/definitions.py --check       exit status 1 where something is amiss
 
 Amiss is: a definition that stands twice; a name that two crates have, or two names that differ by case alone; a file
-whose first line says neither Model nor Bookkeeping; and one of the model that no public contract cites, nor another of
-the model.
+whose first line says neither Model nor Bookkeeping; one of the model that no public contract cites, nor another of the
+model; bookkeeping that the contract of a function of a crate's root cites, or the model of another crate; and a lemma
+whose statement two crates have.
 """
 
 import pathlib
@@ -174,7 +175,66 @@ def cited_by_none(found):
             yield f"{one.name} of {one.place} is of the model, but nothing public cites it, nor another of the model"
 
 
-CHECKS = (standing_twice, alike_but_for_case, two_meanings, unmarked, cited_by_none)
+def handed_out(crate):
+    """The texts of the files of a crate whose functions its root hands out, each with these functions' headers."""
+    root = crate / "src" / "lib.rt"
+    text = root.read_text(encoding="utf-8") if root.exists() else ""
+    handed = {module: set() for module in re.findall(r"^pub mod (\w+);", text, re.MULTILINE)}
+    for module, names in re.findall(r"^pub use (\w+)::\{?([^;]*?)\}?;", text, re.MULTILINE):
+        handed.setdefault(module, set()).update(re.findall(r"\w+", names))
+    for module, names in handed.items():
+        path = crate / "src" / f"{module}.rt"
+        text = path.read_text(encoding="utf-8") if path.exists() else ""  # else a crate below has it
+        functions = re.split(r"(?m)^(?=(?:pub )?fn )", text)[1:]
+        named = ((re.match(r"pub fn (\w+)", one), re.split(r"(?m)^\{", one)[0]) for one in functions)
+        yield text, " ".join(header for name, header in named if name and (not names or name[1] in names))
+
+
+def imported(text):
+    """From which crate and topic a file has each name of specs/ that it imports."""
+    for crate, topic, names in re.findall(r"^(?:ghost )?use Rattle\.(\w+)\.specs\.(\w+)\.\{(.*)\}", text, re.MULTILINE):
+        for name in names.split(","):
+            yield name.strip().split(" as ")[0], f"{crate}/specs/{topic}"
+
+
+def bookkeeping_cited(found):
+    """Bookkeeping that a reader of public contracts meets."""
+    kept = {(one.name, one.place) for one in found if not one.model}
+    for crate in sorted(TOP.glob("crates/*")):
+        for text, headers in handed_out(crate):
+            for name, place in sorted(set(imported(text)) & kept):
+                if name in cited_names(headers):
+                    yield f"{name} of {place} is bookkeeping, and a public contract of {crate.name} cites it"
+    for path in spec_files():
+        text = path.read_text(encoding="utf-8")
+        for name, place in set(imported(text)) & kept if text.startswith("-- Model:") else ():
+            if "-" not in name and not place.startswith(path.parts[-3] + "/"):
+                yield f"{name} of {place} is bookkeeping, and {path.relative_to(TOP)} cites it"
+
+
+LEMMA = re.compile(rf"^(?:(?:abbrev|unfoldable|pub)\s+)*({NAME}) : (.*(?:\n[ \t]+.*)*)", re.MULTILINE)
+
+
+def lemmas_twice(_):
+    """Lemmas of proofs/ whose statements two crates have, but for the answers that each function has of its own."""
+    seen = {}
+    for path in sorted(TOP.glob("crates/*/proofs/**/*.antt")):
+        for name, said in LEMMA.findall(path.read_text(encoding="utf-8")):
+            said, crate = re.sub(r"\s+", " ", said), path.relative_to(TOP).parts[1]
+            other = seen.setdefault(said, (crate, name))
+            if len(said) > 60 and other[0] != crate:
+                yield f"{name} of {crate} says what {other[1]} of {other[0]} does"
+
+
+CHECKS = (
+    standing_twice,
+    alike_but_for_case,
+    two_meanings,
+    unmarked,
+    cited_by_none,
+    bookkeeping_cited,
+    lemmas_twice,
+)
 
 
 def main(words):

@@ -3,10 +3,15 @@
 the prover has to accept it: else the edit may be refused for its shape alone, and tells nothing of a contract.
 
 usage: scripts/twins.py CRATE [EDIT..]     (behind `scripts/build`, over whose libraries it checks)
+       scripts/twins.py --list
 
 The twin of crates/CRATE/must-fail/EDIT.edit stands in tests/twins/CRATE/EDIT.edit, in the same form. A line for each
 edit says whether its twin is accepted; the exit status is 1 unless all are. Twins of different places are tried
 together, and each by itself only where the prover refuses them so.
+
+--list proves nothing. For each edit of every crate it says whether it has a twin, for each wrong body of
+tests/twins/tests.txt which test is in place of an edit, and last how many there are. The status is 1 where an edit has
+no twin, or a test isn't there.
 """
 import importlib.machinery
 import importlib.util
@@ -93,10 +98,38 @@ def accepted(prover, twins):
             yield from (name for name in names if prover.accepts([twins[name]]))
 
 
+def stood_for(text):
+    """The wrong bodies that a test stands for: of which crate, by which test, and what each does."""
+    lines = [line for line in text.splitlines() if line and not line.startswith("#")]
+    return [(*line.partition(": ")[0].split(), line.partition(": ")[2]) for line in lines]
+
+
+def has_test(crate, name):
+    """Whether the crate has this test."""
+    found = (TOP / "crates" / crate / "src").glob("**/*.rt")
+    return any(f"#[test]\nfn {name}(" in path.read_text(encoding="utf-8") for path in found)
+
+
+def listed():
+    """Says of each edit whether it has a twin, and which tests are in place of edits; the exit status."""
+    edits = sorted((TOP / "crates").glob("*/must-fail/*.edit"))
+    twins = [path for path in edits if (TOP / "tests" / "twins" / path.parts[-3] / path.name).exists()]
+    for path in edits:
+        print(f"{path.parts[-3]}/{path.stem}: {'twin' if path in twins else 'no twin'}")
+    tests = stood_for((TOP / "tests" / "twins" / "tests.txt").read_text(encoding="utf-8"))
+    lost = [test for test in tests if not has_test(*test[:2])]
+    for crate, name, body in tests:
+        print(f"{crate}: {body}: {'NO ' if (crate, name, body) in lost else ''}test {name}")
+    print(f"{len(edits)} edits, {len(twins)} with twins, {len(tests)} wrong bodies with tests in place of edits")
+    return 0 if len(twins) == len(edits) and not lost else 1
+
+
 def main():
     """Tries the twins of a crate's edits and says how each ended; the exit status."""
     if len(sys.argv) < 2:
         sys.exit(__doc__.split("\n\n")[1])
+    if sys.argv[1:] == ["--list"]:
+        return listed()
     crate, wanted = sys.argv[1], sys.argv[2:]
     names = wanted or sorted(path.stem for path in (TOP / "crates" / crate / "must-fail").glob("*.edit"))
     paths = {name: TOP / "tests" / "twins" / crate / f"{name}.edit" for name in names}

@@ -32,3 +32,13 @@ def test_each_twin_is_one_of_an_edit_and_of_its_place():
         edit = TOP / "crates" / path.parent.name / "must-fail" / path.name
         places = [[(file, old) for file, old, _ in twins.changes(it)] for it in (path, edit)]
         assert places[0] == places[1], path
+
+
+def test_what_a_test_stands_for_is_read():
+    text = "# what it is\n\nsteps a_count_is_kept: nothing is counted\n"
+    assert twins.stood_for(text) == [("steps", "a_count_is_kept", "nothing is counted")]
+
+
+def test_each_test_in_place_of_an_edit_is_there():
+    text = (TOP / "tests" / "twins" / "tests.txt").read_text(encoding="utf-8")
+    assert all(twins.has_test(crate, name) for crate, name, _ in twins.stood_for(text))

@@ -1,12 +1,12 @@
 """The whole way of `maxcat` for an image that is there as an array."""
 import concurrent.futures
-import math
 from typing import TYPE_CHECKING, Optional, Sequence, Tuple
 
 import numpy
 from astropy.io import fits
 
-from . import _detection as detection, _kernel as kernel, _stored as stored, _tables as tables
+from . import _detection as detection, _kernel as kernel, _finishing as finishing, _stored as stored
+from ._docs import described
 from ._estimates import floats
 from ._limits import TILE
 from ._nddata import AnyImage, parts_of
@@ -43,25 +43,7 @@ def _numbers(image, label: str) -> numpy.ndarray:
     return array
 
 
-def _check(settings: detection.Settings) -> None:
-    """Raises ValueError for a setting that `maxcat` wouldn't take either."""
-    sigmas, gain, saturation = settings.sigmas, settings.gain, settings.saturation
-    if sigmas is not None and not 0 < sigmas <= 1e6:
-        raise ValueError(f"sigmas is a number above 0 and at most 1e6, not {sigmas}")
-    if gain is not None and not 0 < gain < math.inf:
-        raise ValueError(f"gain is a finite number above 0, not {gain}")
-    if saturation is not None and not math.isfinite(saturation):
-        raise ValueError(f"saturation is a finite number, not {saturation}")
-    for name, least, most in (("fwhm", 0, 50), ("contrast", 0, 1000), ("split_sigmas", 0, 1e6)):
-        value = getattr(settings, name)
-        if value is not None and not least <= value <= most:
-            raise ValueError(f"{name} is a number from {least} to {most:g}, not {value}")
-    for name in ("min_area", "tile", "workers"):
-        count = getattr(settings, name)
-        if count is not None and (count < 1 or count != int(count)):
-            raise ValueError(f"{name} is a whole number from 1 on, not {count}")
-
-
+@described
 def catalogue(
     image: AnyImage,
     *,
@@ -107,13 +89,12 @@ def catalogue(
         The magnitude of a flux of 1; the catalogue has magnitudes then.
     executor : concurrent.futures.Executor, optional
         What tiles run in.
-    program : str or os.PathLike, optional
-        The path of the program, by default that of `find_program`.
+    {program}
     sigmas : float, optional
         The threshold, in deviations of the noise of the smoothed image; by default what suits the smoothing.
     fwhm : float, optional
-        The width of the Gaussian that smooths the image before sources are sought, in pixels from 0 to 50; 0 for none,
-        by default the width of the image's point sources.
+        The width of the Gaussian that smooths the image before sources are sought, in pixels from 0.5 to 50; 0 for
+        none, by default the width of the image's point sources.
     mesh : int, default: 64
         The side of the square cells by which the background is told, from 8 to 512 pixels; 0 for one level.
     min_area : int, optional
@@ -129,10 +110,8 @@ def catalogue(
         Leaves out the pixels that cosmic rays have hit; wants astroscrappy.
     wide : bool, default: False
         Seeks wide faint sources besides.
-    gain : float, optional
-        Electrons for a unit of the image; errors have the sources' own noise then.
-    saturation : float, optional
-        From this value on pixels are saturated, in the image's units.
+    {gain}
+    {saturation}
     apertures : sequence of float, default: (10.0,)
         The diameters of the circles in which fluxes are summed, in pixels.
     kron : tuple of float, default: (2.5, 3.5)
@@ -185,7 +164,6 @@ def catalogue(
         tile=tile,
         workers=workers,
     )
-    _check(settings)
     parts = parts_of(image, noise=noise, header=header)
     values = _numbers(parts.array, "an image")
     weights = None if parts.noise is None else ArrayPlane(_numbers(parts.noise, "the noise"), "the noise")
@@ -195,6 +173,8 @@ def catalogue(
     field = detection.Field(plane, settings, weights=weights)
     segments = numpy.zeros(plane.shape, dtype="i4")
     table = detection.sources(field, executor, segments=segments, program=program)
-    unit = parts.unit if parts.unit or header is None else tables.unit_of(header)
-    finished = tables.finished_rows(table, header if parts.wcs is None else parts.wcs, zeropoint=zeropoint, unit=unit)
+    unit = parts.unit if parts.unit or header is None else finishing.unit_of(header)
+    finished = finishing.finished_rows(
+        table, header if parts.wcs is None else parts.wcs, zeropoint=zeropoint, unit=unit
+    )
     return finished.table(), segments

@@ -6,17 +6,16 @@ import re
 from typing import TYPE_CHECKING, List, Optional, Tuple
 
 from ._errors import Mistake
-from ._limits import CHECKS, FORMATS, KINDS
-from ._words import called, finite, whole
+from ._limits import CHECKS, FORMATS, KINDS, LISTS, RANGES
+from ._words import called, finite, several, within
 
 if TYPE_CHECKING:
     from ._rows import Rows
 
 __all__ = ["add", "add_read", "add_run", "check", "is_known", "listed", "names_of", "picked"]
 
-MOST_APERTURES, WIDEST = 32, 1000.0
-MOST_RADII = 20.0
-LEAST_VIGNET, MOST_VIGNET = 3, 255
+# The side of a vignet; for none the option is left out.
+side = within(RANGES["vignet"]._replace(or_zero=False))
 BAND = re.compile("[A-Za-z0-9]{1,8}")
 # So many names that aren't known are told.
 SHOWN = 8
@@ -24,37 +23,23 @@ SHOWN = 8
 NAME = re.compile(r"([A-Za-z][A-Za-z0-9_]*)(?:\(([\d, ]*)\))?")
 
 
-@called("list of diameters")
-def diameters(text: str) -> Tuple[float, ...]:
-    """Diameters in pixels, parted by commas."""
-    found = tuple(float(each) for each in text.split(","))
-    if len(found) > MOST_APERTURES or not all(0 < each <= WIDEST for each in found):
-        raise argparse.ArgumentTypeError(
-            f"{text} isn't one to {MOST_APERTURES} numbers above 0 and up to {WIDEST:g}, parted by commas"
-        )
-    return found
-
-
-@called("two numbers")
-def radii(text: str) -> Tuple[float, float]:
-    """Kron radii and deviations, parted by a comma."""
-    found = [float(each) for each in text.split(",")]
-    if len(found) != 2 or not all(0 < each <= MOST_RADII for each in found):
-        raise argparse.ArgumentTypeError(f"{text} isn't two numbers above 0 and up to {MOST_RADII:g}")
-    return found[0], found[1]
-
-
-@called("whole number")
-def side(text: str) -> int:
-    """The side of a vignet: an odd number of pixels."""
-    value = whole(LEAST_VIGNET, MOST_VIGNET)(text)
-    if value % 2 == 0:
-        raise argparse.ArgumentTypeError(f"{text} isn't odd")
-    return value
-
-
 def add(out) -> None:
-    """The options."""
+    """The options that say what a catalogue has, and what is written beside it."""
+    _add_form(out)
+    _add_measures(out)
+    out.add_argument(
+        "--check",
+        type=check_images,
+        metavar="KIND,KIND,...",
+        help="check images beside the catalogue, as CATALOGUE.background.fits: " + ", ".join(CHECKS),
+    )
+    out.add_argument(
+        "--vignet", type=side, metavar="N", help="adds the column VIGNET: N x N pixels around each source, for PSFEx"
+    )
+
+
+def _add_form(out) -> None:
+    """The form of a catalogue, and its columns."""
     out.add_argument(
         "--format",
         choices=sorted(set(FORMATS.values())),
@@ -73,29 +58,24 @@ def add(out) -> None:
         help="the columns that are wanted, parted by commas, or a file with a name on each line; Source Extractor's "
         "names count too (default: all)",
     )
+
+
+def _add_measures(out) -> None:
+    """The apertures in which light is summed."""
     out.add_argument(
         "--apertures",
-        type=diameters,
+        type=several(LISTS["apertures"], "list of diameters", ", parted by commas"),
         default=(10.0,),
         metavar="D,D,...",
         help="the diameters in pixels of the circles of FLUX_APER (default: 10)",
     )
     out.add_argument(
         "--kron",
-        type=radii,
+        type=several(LISTS["kron"], "two numbers"),
         default=(2.5, 3.5),
         metavar="K,LEAST",
         help="how many Kron radii the ellipse of FLUX_AUTO reaches, and how many deviations of the light at least "
         "(default: 2.5,3.5, as Source Extractor)",
-    )
-    out.add_argument(
-        "--check",
-        type=check_images,
-        metavar="KIND,KIND,...",
-        help="check images beside the catalogue, as CATALOGUE.background.fits: " + ", ".join(CHECKS),
-    )
-    out.add_argument(
-        "--vignet", type=side, metavar="N", help="adds the column VIGNET: N x N pixels around each source, for PSFEx"
     )
 
 
@@ -205,14 +185,14 @@ def listed(text: str) -> List[str]:
 
 def is_known(text: str) -> bool:
     """The package or Source Extractor calls a column so that the package has."""
-    from . import _ldac as ldac, _tables as tables
+    from . import _finishing as finishing, _ldac as ldac
 
     match = NAME.fullmatch(text)
     if match is None:
         return False
     name = match[1]
     plain = re.sub(r"^MAG(ERR)?_", r"FLUX\1_", name)
-    return name in ldac.COLUMNS or any(it in tables.COLUMNS for it in (plain, plain.rpartition("_")[0]))
+    return name in ldac.COLUMNS or any(it in finishing.COLUMNS for it in (plain, plain.rpartition("_")[0]))
 
 
 def names_of(given: argparse.Namespace) -> Optional[List[str]]:

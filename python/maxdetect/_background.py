@@ -102,10 +102,3 @@ class Above:
         level: Union[int, numpy.ndarray] = 0 if self._background is None else self._background.at(rows, columns)
         above = self._values[rows, columns] >= level + self._threshold
         return above if self._undefined is None else above & ~self._undefined[rows, columns]
-
-
-def undefined_cells(undefined: numpy.ndarray, mesh: int) -> Optional[numpy.ndarray]:
-    """Which cells of the mesh have undefined pixels alone; None where none is so."""
-    tops, lefts = (numpy.arange(0, side, mesh) for side in undefined.shape)
-    empty = numpy.logical_and.reduceat(numpy.logical_and.reduceat(undefined, tops, axis=0), lefts, axis=1)
-    return empty if empty.any() else None

@@ -1,74 +1,41 @@
-"""The work of `maxcat`: from image files to their catalogues, each with all that is written beside it."""
+"""The work of `maxcat` on an image file: its catalogue, with all that is written beside it."""
 import argparse
 import concurrent.futures
 import contextlib
-import dataclasses
-import importlib
-import math
 import os
 import shlex
-import sys
 import tempfile
-import warnings
-from typing import TYPE_CHECKING, Callable, ContextManager, Dict, List, Optional, Tuple, Union
+from typing import TYPE_CHECKING, Callable, Dict, List, Optional
 
 import numpy
-from astropy.utils.exceptions import AstropyWarning
 
 from . import (
     __version__,
     _asked as asked,
     _checks as checks,
     _detection as detection,
+    _finishing as finishing,
     _headings as headings,
-    _kernel as kernel,
     _maps as maps,
-    _measuring as measuring,
     _planefiles as planefiles,
-    _pools as pools,
-    _resuming as resuming,
+    _regions as regions,
+    _tables as tables,
 )
-from . import _tables as tables
 from ._errors import Mistake
 from ._images import Plane
 from ._rows import Rows
-from ._tasks import Task, check_files, check_options, form_of, inputs_of, outputs_of, task_of
-from ._telling import about, attempted, say, text, with_image
+from ._tasks import Task, form_of, outputs_of
+from ._telling import about
+from ._wholefiles import whole_files
 
 if TYPE_CHECKING:
     from . import _report as report
 
-__all__ = ["run"]
+__all__ = ["done"]
 
 Executor = concurrent.futures.Executor
 # A map of more pixels isn't held in memory.
 LARGE = 2**22
-
-
-def _nothing(count: int) -> None:
-    """Where nobody looks at the progress."""
-
-
-class _Progress:
-    """A bar on a terminal, and nothing elsewhere. Once it is closed, work that goes on in threads ends by it."""
-
-    def __init__(self, count: int):
-        self._bar, self._closed = None, False
-        if sys.stderr is not None and sys.stderr.isatty():
-            from tqdm import tqdm
-
-            self._bar = tqdm(total=count, unit="tile", leave=False)
-
-    def __call__(self, count: int) -> None:
-        if self._closed:
-            raise Mistake("the command has ended")
-        if self._bar is not None:
-            self._bar.update(count)
-
-    def close(self) -> None:
-        self._closed = True
-        if self._bar is not None:
-            self._bar.close()
 
 
 @contextlib.contextmanager
@@ -125,7 +92,7 @@ def _finished(table: Rows, number: int, task: Task, given: argparse.Namespace) -
     table.meta.update(headings.of_field(field, given.zeropoint), HDU=headings.plain(_extension(field, task)))
     zeropoints = {name: given.zeropoint for name in task.bands[number]} if given.zeropoint is not None else {}
     zeropoints.update(given.band_zeropoint or [])
-    return tables.finished_rows(
+    return finishing.finished_rows(
         table,
         field.plane.header,
         zeropoint=given.zeropoint,
@@ -179,7 +146,7 @@ def _write(found: List[Rows], task: Task, given: argparse.Namespace, names: Dict
     table = _joined(found, task, given)
     if given.regions:
         with about(given.regions):
-            tables.regions(table, names[given.regions])
+            regions.write(table, names[given.regions])
     with about(task.output):
         if form_of(task, given) == "ldac":
             from . import _ldac as ldac
@@ -208,9 +175,9 @@ def _told(filled: Callable, skies: list) -> Callable:
     return told
 
 
-def _done(task: Task, given: argparse.Namespace, tiles, progress) -> str:
+def done(task: Task, given: argparse.Namespace, tiles, progress) -> str:
     """Finds and writes a file's sources, and says so."""
-    with about(task.output), tables.whole_files(outputs_of(task, given)) as names, _maps(
+    with about(task.output), whole_files(outputs_of(task, given)) as names, _maps(
         task, given, names.get(given.map)
     ) as planes:
         found: List[Rows] = []
@@ -235,127 +202,3 @@ def _done(task: Task, given: argparse.Namespace, tiles, progress) -> str:
         except Mistake as fault:
             raise Mistake(f"{fault}; {written}") from None
     return written
-
-
-def _count(tasks: List[Task]) -> int:
-    """How many tiles there are."""
-    return sum(math.prod(-(-side // detection.TILE) for side in field.shape) for task in tasks for field in task.fields)
-
-
-def _outcome(item: Union[Task, Exception], work: Callable, *given) -> Union[str, Exception]:
-    """What some work on a file gives, or the fault that came in its way."""
-    if not isinstance(item, Task):
-        return item
-    found = attempted(with_image, item.path, work, *given)
-    return Mistake(f"{item.path}: {found}") if isinstance(found, pools.Lost) else found
-
-
-@dataclasses.dataclass
-class _File:
-    """The work on a file, whose tiles run in a pool where there is one."""
-
-    given: argparse.Namespace
-    pool: Optional[Executor] = None
-    progress: Callable[[int], None] = _nothing
-
-    def __call__(self, item: Union[Task, Exception]) -> Union[str, Exception]:
-        return _outcome(item, self._work, item)
-
-    def _work(self, item: Task) -> str:
-        if self.given.resume and resuming.hold(outputs_of(item, self.given), [item.path, *inputs_of(self.given)]):
-            return f"{shlex.quote(item.output)} is there"
-        return _done(item, self.given, self.pool, self.progress)
-
-
-@dataclasses.dataclass
-class _Elsewhere:
-    """The same by one of several workers."""
-
-    given: argparse.Namespace
-    pool: Executor
-    progress: Callable[[int], None]
-
-    def __call__(self, item: Union[Task, Exception]) -> Union[str, Exception]:
-        return _outcome(item, self._work, item)
-
-    def _work(self, item: Task) -> str:
-        self.progress(0)
-        found = self.pool.submit(_File(self.given), item).result()
-        self.progress(_count([item]))
-        if isinstance(found, Exception):
-            raise found
-        return found
-
-
-def _tiles_pool(given: argparse.Namespace, good: List[Task]) -> Optional[ContextManager[Executor]]:
-    """What tiles run in, or None where that isn't worth while. Raises Mistake."""
-    if given.scheduler is not None:
-        from . import _cluster as cluster
-
-        return cluster.executor(given.scheduler)
-    if given.workers == 1 or not any(max(field.shape) > measuring.BLOCK for task in good for field in task.fields):
-        return None
-    # A process would unpack a compressed image by itself, and be sent the pixels that cosmic rays have hit.
-    if given.cosmic_rays or not all(plane.mapped for task in good for plane in task.planes):
-        return concurrent.futures.ThreadPoolExecutor(given.workers)
-    # What tiles want is loaded once: the workers share it.
-    importlib.import_module("scipy.ndimage")
-    return pools.workers(given.workers)
-
-
-def _executors(
-    stack: contextlib.ExitStack, given: argparse.Namespace, good: List[Task]
-) -> Tuple[Optional[Executor], Optional[Executor], Optional[Executor]]:
-    """What so many images run in, what their tiles do, and what does the work on a whole file; None where they follow
-    each other. Raises Mistake.
-    """
-    together = min(given.workers, len(good))
-    # What is left first is what the others wait for.
-    files = stack.enter_context(concurrent.futures.ThreadPoolExecutor(together)) if together > 1 else None
-    if given.scheduler is None and 1 < given.workers <= len(good):
-        return files, None, stack.enter_context(pools.workers(together))
-    tiles = _tiles_pool(given, good)
-    return files, None if tiles is None else stack.enter_context(tiles), None
-
-
-def _ready(given: argparse.Namespace) -> List[Union[Task, Exception]]:
-    """What is asked for of each image, or what is wrong with it, when the programs are there that are wanted. Raises
-    Mistake.
-    """
-    check_options(given)
-    given.names = asked.names_of(given)
-    every = [attempted(with_image, path, task_of, path, given) for path in given.images]
-    good = [item for item in every if isinstance(item, Task)]
-    check_files(given, good)
-    if good:
-        kernel.find_program()
-        if given.survey:
-            from . import _adding as adding
-
-            adding.find_survey_program()
-    return every
-
-
-def run(given: argparse.Namespace) -> bool:
-    """Does what is asked for, and tells for each image what came of it: False where one of several wasn't done. Raises
-    Mistake.
-    """
-    warnings.simplefilter("ignore", AstropyWarning)
-    warnings.simplefilter("ignore", RuntimeWarning)
-    every, all_done = _ready(given), True
-    good = [item for item in every if isinstance(item, Task)]
-    with contextlib.ExitStack() as stack:
-        # Processes are forked before there is a thread.
-        files, tiles, elsewhere = _executors(stack, given, good)
-        progress = _Progress(_count(good))
-        stack.callback(progress.close)
-        work: Union[_File, _Elsewhere] = _File(given, tiles, progress)
-        if elsewhere is not None:
-            work = _Elsewhere(given, elsewhere, progress)
-        for answer in detection.tiles.each(files, work, every):
-            if isinstance(answer, str):
-                print(answer, flush=True)
-            else:
-                say(f"maxcat: {text(answer)}")
-                all_done = False
-    return all_done

@@ -31,10 +31,10 @@ def run(words: Optional[List[str]] = None) -> bool:
     """
     given = _given(sys.argv[1:] if words is None else words)
     # Until all is loaded a signal ends the command at once: there is nothing to clean up.
-    from . import _cataloguing as cataloguing
+    from . import _running as running
 
     with ended_by_signals():
-        return cataloguing.run(given)
+        return running.run(given)
 
 
 def main(words: Optional[List[str]] = None) -> int:

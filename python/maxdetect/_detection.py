@@ -5,7 +5,7 @@ import dataclasses
 import functools
 import multiprocessing
 import threading
-from typing import Callable, Dict, List, NamedTuple, Optional, Tuple, Union
+from typing import Any, Callable, Dict, List, NamedTuple, Optional, Tuple, Union
 
 import numpy
 
@@ -13,23 +13,26 @@ from . import (
     _cleaning as cleaning,
     _cosmic as cosmic,
     _flagmap as flagmap,
+    _holding as holding,
+    _joining as joining,
     _kernel as kernel,
     _looks as looks,
     _maps as maps,
     _measuring as measuring,
-    photometry,
     _pieces as pieces,
     _pointlike as pointlike,
     scaling,
     _sky as sky,
     _spare as spare,
-    _tiles as tiles,
 )
 from ._bands import columns as band_columns
-from ._fields import Field, Settings, noise_of, sky_of
+from ._executors import each
+from ._fields import Field, noise_of, sky_of
+from ._flags import CUT, WIDE
 from ._limits import TILE
 from ._rows import Rows, side_by_side
-from ._tiles import Box
+from ._settings import Settings
+from ._windows import Box, Plan
 
 __all__ = ["TILE", "Detector", "Field", "Settings", "sources"]
 
@@ -51,8 +54,8 @@ class Detector:
         self.own_turn, self.program_turn = contextlib.nullcontext(), contextlib.nullcontext()
         whole = Box(0, field.shape[0], 0, field.shape[1])
         reach = cleaning.reach(how.width) if self.settings.clean else 1
-        tile = max(self.settings.tile, 1)
-        self.plan = tiles.Plan(field.shape, whole, tile, MARGIN, reach=reach, square=SQUARE * tile)
+        tile = self.settings.tile
+        self.plan = Plan(field.shape, whole, tile, MARGIN, reach=reach, square=SQUARE * tile)
 
     def noise(self, rows: slice, columns: slice) -> Union[float, numpy.ndarray]:
         """The noise of a window's pixels, in the image's units: one number, or an array."""
@@ -77,7 +80,7 @@ class Detector:
             numbers[top - box.top : rows.stop - box.top] = scaling.whole_numbers(seen).filled(kernel.LEAST)
         return numbers
 
-    def __call__(self, box: Box) -> tiles.Look:
+    def __call__(self, box: Box) -> holding.Look:
         """The sources of a window, and its maps. Where the field is cleaned, the column KEPT says of each source
         whether it is more than a peak of noise on faint light.
         """
@@ -92,7 +95,7 @@ class Detector:
         with self.own_turn:
             return self._look(numbers, catalogue, segments)
 
-    def _look(self, numbers: numpy.ndarray, catalogue: Rows, segments: numpy.ndarray) -> tiles.Look:
+    def _look(self, numbers: numpy.ndarray, catalogue: Rows, segments: numpy.ndarray) -> holding.Look:
         """What is made of the program's answer for these numbers."""
         how, settings = self.how, self.settings
         least = settings.split_sigmas if settings.contrast is None else 0
@@ -101,7 +104,7 @@ class Detector:
             parts.catalogue["KEPT"] = cleaning.kept(
                 numbers, parts.segments, parts.labels, how.threshold, how.min_area, how.width, how.variance
             )
-        return tiles.Look(
+        return holding.Look(
             parts.catalogue,
             parts.segments,
             lambda rows, columns: numbers[rows, columns] >= how.threshold,
@@ -130,39 +133,69 @@ def sources(
     left out as peaks of noise on faint light (NCLEANED), and the noise: SIGMA, or with a weight map NOISE, about the
     middle of the image.
     """
+    detector = _detector(field, executor, program)
+    segments = numpy.zeros(field.shape, dtype="i4") if segments is None else segments
+    progress(0)
+    found = _found(detector, executor, segments, progress)
+    skies = _Skies.of(detector, segments, executor)
+    table = _measured(detector, skies, found.rows, segments, executor, bands or {}, progress)
+    if told is not None:
+        told(detector, skies.beside, skies.own, table)
+    table["FLAGS"] |= numpy.where(found.cut, CUT, 0).astype(table["FLAGS"].dtype)
+    if field.settings.wide:
+        table = _with_wide(detector, table, segments, executor, bands or {})
+    joining.hide(segments)
+    table.meta.update(_meta(detector, skies, found))
+    return table
+
+
+def _detector(
+    field: Field, executor: Optional[concurrent.futures.Executor], program: Optional[kernel.Path]
+) -> Detector:
+    """What looks at a field's windows, when its sky is known, and the pixels that cosmic rays have hit."""
     # A small image is done before it is handed out.
-    found = sky_of(field, functools.partial(tiles.each, executor if min(field.shape) >= TILE else None))
+    found = sky_of(field, functools.partial(each, executor if min(field.shape) >= TILE else None))
     if field.settings.cosmic_rays:
         field = dataclasses.replace(field, struck=cosmic.struck(field, found))
     detector = Detector(field, found, looks.way(field, found), program)
-    segments = numpy.zeros(field.shape, dtype="i4") if segments is None else segments
-    cores = detector.plan.cores()
-    if len(cores) == 1 and field.settings.workers > 1:
+    if len(detector.plan.cores()) == 1 and field.settings.workers > 1:
         detector.strips = {"strips": 16, "workers": field.settings.workers}
-    progress(0)
-    with _looked_at(detector, executor, cores) as pieces:
-        table, cut = tiles.gathered(pieces, segments, progress)
+    return detector
+
+
+class _Found(NamedTuple):
+    """The sources that are found, which of them are cut, and how many were left out as peaks of noise."""
+
+    rows: Rows
+    cut: numpy.ndarray
+    cleaned: int
+
+
+def _found(
+    detector: Detector,
+    executor: Optional[concurrent.futures.Executor],
+    segments: numpy.ndarray,
+    progress: Callable[[int], None],
+) -> _Found:
+    """The sources of all tiles; the map has them."""
+    with _looked_at(detector, executor, detector.plan.cores()) as pieces:
+        table, cut = joining.gathered(pieces, segments, progress)
     seen = len(table)
-    if field.settings.clean:
+    if detector.settings.clean:
         table, cut = _cleaned(table, cut, segments)
-    cleaned = seen - len(table)
-    own = measuring.sky_of_values(detector)
-    level = measuring.sky_beside(detector, segments, executor, own)
-    points = measuring.points_of(detector, level)
-    skies = _Skies(own, level, points)
-    table = _measured(detector, skies, table, segments, executor, bands or {}, progress)
-    if told is not None:
-        told(detector, level, own, table)
-    table["FLAGS"] |= numpy.where(cut, photometry.CUT, 0).astype(table["FLAGS"].dtype)
-    if field.settings.wide:
-        table = _with_wide(detector, table, segments, executor, bands or {})
-    tiles.hide(segments)
-    table.meta.update(detector.how.meta, GROWTH=points is not None, NCLEANED=cleaned)
+    return _Found(table, cut, seen - len(table))
+
+
+def _meta(detector: Detector, skies: "_Skies", found: _Found) -> Dict[str, Any]:
+    """What a catalogue says of how its sources were found."""
+    field = detector.field
+    told: Dict[str, Any] = {**detector.how.meta}
+    told.update(GROWTH=skies.points is not None, NCLEANED=found.cleaned)
     if field.struck is not None:
-        table.meta["NCOSMIC"] = int(field.struck.sum())
+        told["NCOSMIC"] = int(field.struck.sum())
     # With a weight map the sky's noise is a factor, and no noise of the image.
-    table.meta["NOISE" if field.weights is not None else "SIGMA"] = detector.middle_noise()
-    return table
+    told["NOISE" if field.weights is not None else "SIGMA"] = detector.middle_noise()
+    return told
 
 
 @contextlib.contextmanager
@@ -180,8 +213,8 @@ def _looked_at(detector: Detector, executor: Optional[concurrent.futures.Executo
                 stack.callback(setattr, detector, name, contextlib.nullcontext())
                 setattr(detector, name, threading.Lock())
             executor = stack.enter_context(concurrent.futures.ThreadPoolExecutor(2))
-        each = functools.partial(tiles.each, executor)
-        yield tiles.with_cut(each(_Tile(detector), cores), detector.plan, functools.partial(each, _Cut(detector)))
+        seen = each(executor, _Tile(detector), cores)
+        yield joining.with_cut(seen, detector.plan, functools.partial(each, executor, _Cut(detector)))
 
 
 def _cleaned(table: Rows, cut: numpy.ndarray, segments: numpy.ndarray) -> Tuple[Rows, numpy.ndarray]:
@@ -206,6 +239,15 @@ class _Skies(NamedTuple):
     own: Optional[sky.Sky]
     beside: Optional[sky.Sky]
     points: Optional[pointlike.PointSources]
+
+    @classmethod
+    def of(
+        cls, detector: Detector, segments: numpy.ndarray, executor: Optional[concurrent.futures.Executor]
+    ) -> "_Skies":
+        """Those of a field whose map this is."""
+        own = measuring.sky_of_values(detector)
+        beside = measuring.sky_beside(detector, segments, executor, own)
+        return cls(own, beside, measuring.points_of(detector, beside))
 
 
 def _measured(detector: Detector, skies: _Skies, table: Rows, segments: numpy.ndarray, executor, bands, progress):
@@ -241,10 +283,10 @@ def _with_wide(detector: Detector, table: Rows, segments: numpy.ndarray, executo
     own = measuring.sky_of_values(detector)
     skies = _Skies(own, measuring.sky_beside(detector, segments, executor, own), None)
     rows = _measured(detector, skies, more.rows, segments, executor, bands, lambda count: None)
-    rows["FLAGS"] |= photometry.WIDE
+    rows["FLAGS"] |= WIDE
     meta = table.meta
-    table, places = tiles.numbered([table, rows])
-    tiles.renumber(segments, places)
+    table, places = joining.numbered([table, rows])
+    joining.renumber(segments, places)
     table.meta = meta
     return table
 
@@ -255,8 +297,8 @@ class _Tile:
 
     detector: Detector
 
-    def __call__(self, core: Box) -> tiles.Seen:
-        return tiles.tile_sources(self.detector, self.detector.plan, core)
+    def __call__(self, core: Box) -> joining.Seen:
+        return holding.tile_sources(self.detector, self.detector.plan, core)
 
 
 @dataclasses.dataclass
@@ -265,5 +307,5 @@ class _Cut:
 
     detector: Detector
 
-    def __call__(self, item: Tuple[Box, numpy.ndarray]) -> tiles.Piece:
-        return tiles.cut_sources(self.detector, self.detector.plan, *item)
+    def __call__(self, item: Tuple[Box, numpy.ndarray]) -> joining.Piece:
+        return holding.cut_sources(self.detector, self.detector.plan, *item)

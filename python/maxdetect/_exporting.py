@@ -11,6 +11,7 @@ from astropy.table import Table
 
 from . import _survey_files as survey_files, _surveys as surveys, _tables as tables
 from ._errors import Mistake
+from ._wholefiles import whole_file
 from ._words import Parser, whole
 
 DESCRIPTION = """Reads the file of a survey, as `maxsurvey --file` keeps it, and writes the sources of its fields as one
@@ -48,7 +49,7 @@ def write_database(table: Table, path: str) -> None:
     kinds = ", ".join(f'"{name}" {KINDS[table[name].dtype.kind]}' for name in table.colnames)
     columns = [_plain_values(table[name]) for name in table.colnames]
     places = ", ".join("?" for _ in columns)
-    with tables.whole_file(path) as name, _told(path):
+    with whole_file(path) as name, _told(path):
         with contextlib.closing(sqlite3.connect(name)) as connection, connection as writing:
             writing.execute(f"CREATE TABLE sources ({kinds}) STRICT")
             writing.executemany(f"INSERT INTO sources VALUES ({places})", zip(*columns))

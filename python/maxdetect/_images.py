@@ -18,6 +18,7 @@ from astropy.utils.exceptions import AstropyWarning
 from . import _cards as cards, _headers as headers, _stored as stored
 from ._errors import Mistake
 from ._nddata import AnyImage, parts_of
+from ._wholefiles import whole_file
 
 Name = Union[int, str, None]
 # So many rows of a file are looked at at a time.
@@ -330,8 +331,6 @@ def save(image: AnyImage, path: Union[str, os.PathLike], header: Optional[fits.H
     Mistake
         Where the file can't be written, or unit or WCS are given twice, by NDData and by the header.
     """
-    from ._tables import whole_file
-
     parts = parts_of(image, header=header)
     values, undefined = numpy.ma.getdata(parts.array), numpy.ma.getmaskarray(parts.array)
     cards = fits.Header() if header is None else _without_layout(header)

@@ -36,6 +36,7 @@ import numpy
 from astropy.io import fits
 
 from ._columns import DESCRIPTIONS
+from ._docs import described
 from ._errors import Mistake
 from ._rows import Rows
 from ._stored import meaning, raw, sums
@@ -397,7 +398,7 @@ def _numbers_at(file, place, dtype, count):
     return found
 
 
-def described(rows: Rows) -> "Table":
+def catalogue_of(rows: Rows) -> "Table":
     """A catalogue of the program as astropy's table, with what its columns are."""
     table = rows.table()
     for name in table.colnames:
@@ -421,7 +422,7 @@ def read(file: Union[Path, BinaryIO]) -> Tuple["Table", numpy.ndarray]:
         The number of the source to which each pixel belongs, or 0.
     """
     rows, segments = _read_rows(file)
-    return described(rows), segments
+    return catalogue_of(rows), segments
 
 
 def _answer(output, shape, reading=read):
@@ -461,6 +462,7 @@ def _read_plane(file):
         return (_native(hdus[0].data),)
 
 
+@described
 def detect(
     image: numpy.ndarray,
     threshold: int,
@@ -484,28 +486,17 @@ def detect(
     ----------
     image : numpy.ndarray of int, shape (height, width)
         The image, with values from -2^36 to 2^36. Pixels that are masked are undefined, and belong to no source.
-    threshold : int
-        What a pixel of a source has at least, in the image's units; with `mesh` above the background.
-    min_area : int, default: 1
-        The least area of a source, in pixels.
-    min_flux : int, default: 0
-        The least flux of a source, in the image's units times pixels.
-    contrast : int, default: 5
-        Which part of its component's flux a source that is split from it has at least, in thousandths.
-    mesh : int, default: 0
-        The side of the square cells by which the background is told, in pixels; 0 for none.
-    flat : bool, default: False
-        Takes the background in steps, one for each cell.
-    connect : int, default: 4
-        How many neighbours a pixel has, 4 or 8.
-    strips : int, default: 1
-        Into how many strips the image is cut, which changes nothing but the time.
-    workers : int, default: 1
-        How many threads work on the strips, which changes nothing but the time.
-    blank : int, optional
-        The value of further pixels that are undefined.
-    program : str or os.PathLike, optional
-        The path of the program, by default that of `find_program`.
+    {threshold}
+    {min_area}
+    {min_flux}
+    {contrast}
+    {mesh}
+    {flat}
+    {connect}
+    {strips}
+    {workers}
+    {blank}
+    {program}
 
     Returns
     -------
@@ -557,6 +548,7 @@ def detect_stored(
     return _answer(output, stored.shape, _written_rows)
 
 
+@described
 def measure(
     image: numpy.ndarray,
     values: numpy.ndarray,
@@ -581,28 +573,20 @@ def measure(
         The image in which sources are found, as that of `detect`.
     values : numpy.ndarray of int, shape (height, width)
         The image in which they are measured.
-    threshold : int
-        What a pixel of a source has at least, in the image's units; with `mesh` above the background.
-    min_area : int, default: 1
-        The least area of a source, in pixels.
-    min_flux : int, default: 0
-        The least flux of a source, in the image's units times pixels.
-    contrast : int, default: 5
-        Which part of its component's flux a source that is split from it has at least, in thousandths.
+    {threshold}
+    {min_area}
+    {min_flux}
+    {contrast}
     mesh : int, default: 0
         The side of the square cells by which the background of both images is told, in pixels; 0 for none.
     flat : bool, default: False
         Takes the backgrounds in steps, one for each cell.
-    connect : int, default: 4
-        How many neighbours a pixel has, 4 or 8.
-    strips : int, default: 1
-        Into how many strips the image is cut, which changes nothing but the time.
-    workers : int, default: 1
-        How many threads work on the strips, which changes nothing but the time.
+    {connect}
+    {strips}
+    {workers}
     blank : int, optional
         The value of further pixels that are undefined, in both images.
-    program : str or os.PathLike, optional
-        The path of the program, by default that of `find_program`.
+    {program}
 
     Returns
     -------
@@ -644,6 +628,7 @@ def measure(
     return _answer(_run(program, _words("measure", options), *bands), numpy.shape(image))
 
 
+@described
 def filter(
     image: numpy.ndarray,
     rule: str,
@@ -679,20 +664,13 @@ def filter(
         The least flux, in the image's units times pixels.
     min_fill : int, default: 0
         Which part of its box a node fills at least, in thousandths.
-    mesh : int, default: 0
-        The side of the square cells by which the background is told, in pixels; 0 for none.
-    flat : bool, default: False
-        Takes the background in steps, one for each cell.
-    connect : int, default: 4
-        How many neighbours a pixel has, 4 or 8.
-    strips : int, default: 1
-        Into how many strips the image is cut, which changes nothing but the time.
-    workers : int, default: 1
-        How many threads work on the strips, which changes nothing but the time.
-    blank : int, optional
-        The value of further pixels that are undefined.
-    program : str or os.PathLike, optional
-        The path of the program, by default that of `find_program`.
+    {mesh}
+    {flat}
+    {connect}
+    {strips}
+    {workers}
+    {blank}
+    {program}
 
     Returns
     -------
@@ -727,6 +705,7 @@ def filter(
     return numpy.ma.MaskedArray(values, mask=numpy.zeros(values.shape, dtype=bool) if undefined is None else undefined)
 
 
+@described
 def tree(
     image: numpy.ndarray,
     *,
@@ -744,20 +723,13 @@ def tree(
     ----------
     image : numpy.ndarray of int, shape (height, width)
         The image, as that of `detect`.
-    mesh : int, default: 0
-        The side of the square cells by which the background is told, in pixels; 0 for none.
-    flat : bool, default: False
-        Takes the background in steps, one for each cell.
-    connect : int, default: 4
-        How many neighbours a pixel has, 4 or 8.
-    strips : int, default: 1
-        Into how many strips the image is cut, which changes nothing but the time.
-    workers : int, default: 1
-        How many threads work on the strips, which changes nothing but the time.
-    blank : int, optional
-        The value of further pixels that are undefined.
-    program : str or os.PathLike, optional
-        The path of the program, by default that of `find_program`.
+    {mesh}
+    {flat}
+    {connect}
+    {strips}
+    {workers}
+    {blank}
+    {program}
 
     Returns
     -------

@@ -14,6 +14,7 @@ import numpy
 
 from . import (
     _beside as beside,
+    _joining as joining,
     _looks as looks,
     _maps as maps,
     photometry,
@@ -22,13 +23,13 @@ from . import (
     _shapes as shapes,
     _sky as sky,
     _smoothing as smoothing,
-    _tiles as tiles,
     _windowed as windowed,
 )
 from ._errors import Mistake
+from ._executors import each
 from ._fields import Field, noise_of
 from ._rows import Rows, behind_each_other
-from ._tiles import Box
+from ._windows import Box, moved
 
 if TYPE_CHECKING:
     from ._detection import Detector
@@ -89,11 +90,11 @@ def sky_beside(
     if found is None:
         return None
     rows = (
-        (own, seen, tiles.without_gaps(part))
+        (own, seen, joining.without_gaps(part))
         for own, seen in beside.bands(field.shape[0], found.mesh)
         for part in [_taken(segments, seen)]
     )
-    return beside.joined(tiles.each(executor, _Row(detector, found), rows), found)
+    return beside.joined(each(executor, _Row(detector, found), rows), found)
 
 
 def points_of(detector: "Detector", found: Optional[sky.Sky]) -> Optional[pointlike.PointSources]:
@@ -143,7 +144,7 @@ class _Window:
             field.to_measure(box.rows, box.columns),
             *self._sky(box),
             segments,
-            tiles.moved(rows.copy(), -box.left, -box.top),
+            moved(rows.copy(), -box.left, -box.top),
             gain=settings.gain,
             saturation=field.saturation,
             apertures=settings.apertures,
@@ -156,7 +157,7 @@ class _Window:
         )
         found["STELLARITY"] = shapes.stellarity(2 * found["FLUX_RADIUS"], self.points)
         found["BACKGROUND"], found["THRESHOLD"] = self._beside(box, found)
-        return tiles.moved(found, box.left, box.top)
+        return moved(found, box.left, box.top)
 
     @property
     def seen(self) -> shapes.Seen:
@@ -234,7 +235,7 @@ def measured(
         windows = []
         ahead, behind = itertools.tee(waiting)
         items = ((box, table[places], segments[box.rows, box.columns]) for box, places in ahead)
-        for (box, places), answer in zip(behind, tiles.each(executor, work, items)):
+        for (box, places), answer in zip(behind, each(executor, work, items)):
             progress(0)
             maps.let_go(segments)
             wanted = numpy.maximum(answer["KRON_RADIUS"], windowed.reach(answer["FLUX_RADIUS"])) + 2

@@ -4,10 +4,10 @@ import os
 from typing import Tuple
 
 from . import __version__, _asked as asked
-from ._limits import KINDS, LEAST_MESH, MOST_MESH
-from ._words import Parser, called, finite, whole
+from ._limits import KINDS, RANGES
+from ._words import Parser, called, finite, whole, within
 
-__all__ = ["mesh_side", "parser", "sigmas"]
+__all__ = ["parser"]
 
 DESCRIPTION = """Finds the sources of an image and writes a catalogue: positions, fluxes with errors, ellipses, flags,
 and sky coordinates where the header has them.
@@ -17,42 +17,6 @@ results are proved; the sky, the scaling and the photometry around it are not. @
 Errors are one line on standard error, with status 2; nothing is written then. Where one of several images is at fault,
 the others are done.
 """
-MOST_WORKERS = 64
-MOST_SIGMAS = 1e6
-LEAST_WIDTH, MOST_WIDTH = 0.5, 50.0
-
-
-@called("whole number")
-def mesh_side(text: str) -> int:
-    """The side of the background's cells, or 0."""
-    least, most = LEAST_MESH, MOST_MESH
-    if int(text) != 0 and not least <= int(text) <= most:
-        raise argparse.ArgumentTypeError(f"{text} is neither 0 nor a whole number from {least} to {most}")
-    return int(text)
-
-
-@called("number")
-def sigmas(text: str) -> float:
-    """A threshold in deviations of the noise."""
-    if not 0 < float(text) <= MOST_SIGMAS:
-        raise argparse.ArgumentTypeError(f"{text} isn't a number above 0 and up to {MOST_SIGMAS:g}")
-    return float(text)
-
-
-@called("number")
-def deviations(text: str) -> float:
-    """So many deviations of the noise, or 0."""
-    if not 0 <= float(text) <= MOST_SIGMAS:
-        raise argparse.ArgumentTypeError(f"{text} isn't a number from 0 to {MOST_SIGMAS:g}")
-    return float(text)
-
-
-@called("number")
-def width(text: str) -> float:
-    """A width in pixels, 0 for none."""
-    if float(text) != 0 and not LEAST_WIDTH <= float(text) <= MOST_WIDTH:
-        raise argparse.ArgumentTypeError(f"{text} is neither 0 nor a number from {LEAST_WIDTH:g} to {MOST_WIDTH:g}")
-    return float(text)
 
 
 @called("part")
@@ -114,11 +78,13 @@ def _add_read(what) -> None:
     asked.add_read(what)
     what.add_argument(
         "--gain",
-        type=finite(above=0),
+        type=within(RANGES["gain"]),
         help="electrons for a unit of the image that is measured, for the errors (default: its header's GAIN)",
     )
     what.add_argument(
-        "--saturation", type=finite(), help="pixels from this value on are flagged (default: the header's SATURATE)"
+        "--saturation",
+        type=within(RANGES["saturation"]),
+        help="pixels from this value on are flagged (default: the header's SATURATE)",
     )
 
 
@@ -126,13 +92,13 @@ def _add_smoothing(how) -> None:
     """The threshold, and the width of what is looked for."""
     how.add_argument(
         "--sigmas",
-        type=sigmas,
+        type=within(RANGES["sigmas"]),
         metavar="S",
         help="the threshold, in deviations of the noise of the smoothed image (default: 4.4; 2.25 without smoothing)",
     )
     how.add_argument(
         "--fwhm",
-        type=width,
+        type=within(RANGES["fwhm"]),
         metavar="W",
         help="the width of point sources in pixels, by which the image is smoothed (default: as the image shows it)",
     )
@@ -143,7 +109,7 @@ def _add_parts(how) -> None:
     """What counts as a source of its own."""
     how.add_argument(
         "--split-sigmas",
-        type=deviations,
+        type=within(RANGES["split_sigmas"]),
         default=1.0,
         metavar="K",
         help="how many deviations of the noise a part of a component stands above where it meets another one, if it is "
@@ -151,7 +117,7 @@ def _add_parts(how) -> None:
     )
     how.add_argument(
         "--contrast",
-        type=whole(0, 1000),
+        type=within(RANGES["contrast"]),
         metavar="C",
         help="split by the program's contrast instead, in thousandths of the whole component's flux",
     )
@@ -177,14 +143,14 @@ def _add_cells(how) -> None:
     """The sky, the noise and the area, and how many work at once."""
     how.add_argument(
         "--mesh",
-        type=mesh_side,
+        type=within(RANGES["mesh"]),
         default=64,
         metavar="SIDE",
         help="side of the background's cells in pixels, 8 to 512; 0: one level (default: 64)",
     )
     how.add_argument(
         "--min-area",
-        type=whole(1, 2**24),
+        type=within(RANGES["min_area"]),
         metavar="N",
         help="the least area of a source in pixels (default: by the width of the smoothing, 3 for 3.4 pixels; 5 "
         "without smoothing)",
@@ -194,7 +160,7 @@ def _add_cells(how) -> None:
     )
     how.add_argument(
         "--workers",
-        type=whole(1, MOST_WORKERS),
+        type=within(RANGES["workers"]),
         default=min(4, os.cpu_count() or 1),
         metavar="N",
         help="images and tiles at work at once; 1 takes the least memory (default: as many as processors, at most 4)",

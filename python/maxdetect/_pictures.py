@@ -12,7 +12,7 @@ import numpy
 from astropy.table import Table
 
 from ._errors import Mistake
-from ._tables import whole_file
+from ._wholefiles import whole_file
 
 __all__ = ["draw", "outlines", "reduced"]
 
@@ -170,18 +170,42 @@ def draw(
     are shown, from 1. `path` ends in .png, .pdf or another end that matplotlib writes. Raises Mistake where `crop`
     lies outside of the image, matplotlib is missing, or it doesn't write this end of the name.
     """
+    canvas, kind = _canvas(path)
+    rows, columns = _window(numpy.shape(image), crop)
+    step = -(-max(rows.stop - rows.start, columns.stop - columns.start) // PANEL)
+    figure, right, whole = _panels(image, rows, columns, step)
+    if segments is not None:
+        _draw_outlines(right, numpy.asarray(segments[rows, columns]), step, whole)
+    if table is not None:
+        right.set_title(f"{_draw_ellipses(right, table, _extent(rows, columns))} sources")
+    with whole_file(path) as name:
+        canvas(figure).print_figure(name, format=kind)
+
+
+def _canvas(path: Union[str, os.PathLike]):
+    """What matplotlib draws on, and the kind of picture by a file's name. Raises Mistake."""
     try:
         from matplotlib.backends.backend_agg import FigureCanvasAgg
-        from matplotlib.figure import Figure
     except ImportError:
         raise Mistake("a picture wants matplotlib (Debian: python3-matplotlib)") from None
     kind = pathlib.Path(path).suffix[1:].lower()
     if kind not in FigureCanvasAgg.get_supported_filetypes():
         raise Mistake(f"{path}: a picture's name ends in .png, .pdf, .svg or .jpg")
-    rows, columns = _window(numpy.shape(image), crop)
-    part = image[rows, columns]
-    step = -(-max(part.shape) // PANEL)
-    extent = (columns.start + 0.5, columns.stop + 0.5, rows.start + 0.5, rows.stop + 0.5)
+    return FigureCanvasAgg, kind
+
+
+def _extent(rows: slice, columns: slice) -> Tuple[float, float, float, float]:
+    """Where the part that is shown begins and ends, across and up, in pixels from 1."""
+    return columns.start + 0.5, columns.stop + 0.5, rows.start + 0.5, rows.stop + 0.5
+
+
+def _panels(image: numpy.ndarray, rows: slice, columns: slice, step: int):
+    """The part of an image twice, side by side, with a scale of the values: the figure, its right half, and where what
+    is shown in squares of so many pixels begins and ends.
+    """
+    from matplotlib.figure import Figure
+
+    part, extent = image[rows, columns], _extent(rows, columns)
     shown = reduced(numpy.ma.filled(numpy.ma.asarray(part, dtype="f4"), numpy.nan), step)
     # The last squares may reach beyond the image.
     whole = (extent[0], extent[0] + shown.shape[1] * step, extent[2], extent[2] + shown.shape[0] * step)
@@ -189,18 +213,11 @@ def draw(
     aspect = min(max(part.shape[0] / part.shape[1], 0.3), 2)
     figure = Figure(figsize=(13.2, 5.75 * aspect + 0.7), dpi=100, layout="constrained")
     left, right = figure.subplots(1, 2, sharex=True, sharey=True)
-    for axes in (left, right):
-        drawn = axes.imshow(
-            shown - sky, cmap="gray_r", norm=norm, origin="lower", interpolation="nearest", extent=whole
-        )
     left.set_title("image")
-    if segments is not None:
-        _draw_outlines(right, numpy.asarray(segments[rows, columns]), step, whole)
-    if table is not None:
-        right.set_title(f"{_draw_ellipses(right, table, extent)} sources")
+    how = {"cmap": "gray_r", "norm": norm, "origin": "lower", "interpolation": "nearest", "extent": whole}
     for axes in (left, right):
+        drawn = axes.imshow(shown - sky, **how)
         axes.set_xlim(extent[0], extent[1])
         axes.set_ylim(extent[2], extent[3])
     figure.colorbar(drawn, ax=[left, right], pad=0.01, aspect=40, label=f"value less {sky:.6g}")
-    with whole_file(path) as name:
-        FigureCanvasAgg(figure).print_figure(name, format=kind)
+    return figure, right, whole

@@ -8,7 +8,7 @@ from typing import Dict, List, NamedTuple, Tuple
 import numpy
 from astropy.io import fits
 
-from . import _tables as tables
+from ._skyplaces import WCS_CARDS
 
 __all__ = ["Head", "made", "make_room"]
 
@@ -35,11 +35,19 @@ def make_room(file, size: int) -> None:
         file.truncate(size)
 
 
+def _cards(like: fits.Header) -> fits.Header:
+    """The WCS of an image's header, of its first two axes."""
+    cards = fits.Header([card for card in like.cards if WCS_CARDS.fullmatch(card.keyword)])
+    if cards.get("WCSAXES", 2) != 2:
+        cards["WCSAXES"] = 2
+    return cards
+
+
 def _texts(heads: List[Head], dtype: str, cards: Dict[str, str]) -> List[bytes]:
     """The headers of the HDUs: the first is the primary where it is the only one."""
     made = []
     for head in heads:
-        hdu = tables.map_hdu(numpy.zeros((1, 1), dtype="i4"), head.like, head.name)
+        hdu = fits.ImageHDU(numpy.zeros((1, 1), dtype="i4"), _cards(head.like), name=head.name)
         if len(heads) == 1:
             hdu = fits.PrimaryHDU(hdu.data, hdu.header)
         hdu.header["BITPIX"] = {"i4": 32, "f4": -32}[dtype]

@@ -11,9 +11,9 @@ from astropy.utils.exceptions import AstropyWarning
 
 from . import _images as images, scaling
 from ._errors import Mistake
-from ._options import mesh_side, sigmas
+from ._limits import RANGES
 from ._telling import told, with_image
-from ._words import Parser, whole
+from ._words import Parser, whole, within
 
 DESCRIPTION = """Makes an image of whole numbers whose noise is 30, with the sky left in, and prints the command that
 finds its sources. Pixels that aren't finite become BLANK. In the header MAXZERO is the number that was taken off, and
@@ -28,9 +28,11 @@ def run(words: Optional[List[str]] = None) -> None:
     parser.add_argument("--plane", type=whole(1), help="the plane of a cube, from 1")
     parser.add_argument("--smooth", action="store_true", help="smooth by 1 2 1 / 2 4 2 / 1 2 1")
     parser.add_argument(
-        "--mesh", type=mesh_side, default=64, help="side of the background's cells in pixels (default: 64)"
+        "--mesh", type=within(RANGES["mesh"]), default=64, help="side of the background's cells in pixels (default: 64)"
     )
-    parser.add_argument("--sigmas", type=sigmas, help="the threshold (default: 2.25, and 1.375 with --smooth)")
+    parser.add_argument(
+        "--sigmas", type=within(RANGES["sigmas"]), help="the threshold (default: 2.25, and 1.375 with --smooth)"
+    )
     parser.add_argument("--min-area", type=whole(1), default=5, help="the least area in the command (default: 5)")
     parser.add_argument("image", metavar="IMAGE")
     parser.add_argument("prepared", metavar="PREPARED")

@@ -20,9 +20,9 @@ import numpy
 from astropy.table import Table
 
 from . import _checks as checks, _pictures as pictures
-from .photometry import FLAGS
+from ._flags import FLAGS
 from ._sky import Sky
-from ._tables import whole_file
+from ._wholefiles import whole_file
 
 __all__ = ["Skies", "page", "skies", "write"]
 

@@ -8,7 +8,7 @@ import numpy
 if TYPE_CHECKING:
     from astropy.table import Table
 
-__all__ = ["Rows", "behind_each_other", "side_by_side"]
+__all__ = ["Rows", "behind_each_other", "filled", "side_by_side"]
 
 
 def _plain(values: Any) -> numpy.ndarray:
@@ -105,3 +105,11 @@ def behind_each_other(parts: Sequence[Union[Rows, "Table"]]) -> Rows:
 def side_by_side(parts: Sequence[Rows]) -> Rows:
     """Catalogues of the same rows, one beside the other; what is told is the first one's."""
     return Rows({name: values for part in parts for name, values in part.items()}, parts[0].meta)
+
+
+def filled(column: numpy.ndarray) -> numpy.ndarray:
+    """A column's values; those that aren't there, as where one of several images has no WCS, are NaN, 0 or empty."""
+    values = numpy.ma.asarray(column)
+    if values.mask is numpy.ma.nomask:
+        return values.data
+    return values.filled(numpy.nan if values.dtype.kind == "f" else "" if values.dtype.kind in "US" else 0)

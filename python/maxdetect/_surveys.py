@@ -20,7 +20,7 @@ from astropy.io.registry import IORegistryError
 from astropy.table import Table
 from astropy.wcs import WCS
 
-from . import _survey_files as survey_files, _tables as tables
+from . import _finishing as finishing, _skyplaces as skyplaces, _survey_files as survey_files
 from ._columns import CATALOGUE
 from ._errors import Mistake
 
@@ -86,7 +86,7 @@ class Survey(collections.abc.Mapping):
         found = self._asked("SELECT cells FROM source WHERE field = ?", name)
         if not found:
             raise KeyError(name)
-        return tables.finished(Table(_rows(self.path, name, found[0][0]), names=COLUMNS), None)
+        return finishing.finished(Table(_rows(self.path, name, found[0][0]), names=COLUMNS), None)
 
     def _fields(self, names: Optional[Iterable[str]] = None) -> Iterator[Tuple[str, numpy.ndarray]]:
         """The fields, or those that are named, each with its rows."""
@@ -268,14 +268,14 @@ def _cut(found: List[Tuple[str, numpy.ndarray]], count: int):
 def _together(found: List[Tuple[str, numpy.ndarray]], sky: Optional[Skies]) -> Table:
     """The rows of some fields as one table: their names in front, and, where there is a sky, their places."""
     rows = numpy.concatenate([rows for _, rows in found] or [numpy.zeros((0, len(COLUMNS)), dtype="i8")])
-    table = tables.finished(Table(rows, names=COLUMNS), None)
+    table = finishing.finished(Table(rows, names=COLUMNS), None)
     if sky is not None:
         ends = numpy.cumsum([len(rows) for _, rows in found])
         places = numpy.full((2, len(rows)), numpy.nan)
         for (name, field), end in zip(found, ends):
             if name in sky:
                 part = slice(end - len(field), end)
-                places[:, part] = tables.icrs_places(sky[name], table["X"][part], table["Y"][part])
+                places[:, part] = skyplaces.icrs_places(sky[name], table["X"][part], table["Y"][part])
         for axis, values, text in zip(("RA", "DEC"), places, ("right ascension", "declination")):
             table[axis] = values
             table[axis].unit, table[axis].description = units.deg, f"{text} of the centre in the ICRS"

@@ -17,12 +17,12 @@ from . import (
     scaling,
     _sky as sky,
     _smoothing as smoothing,
-    _tiles as tiles,
 )
 from ._errors import Mistake
 from ._fields import Field
+from ._joining import without_gaps
 from ._rows import Rows, behind_each_other
-from ._tiles import Box
+from ._windows import Box, moved
 
 __all__ = ["Found", "THRESHOLD", "beneath", "found"]
 
@@ -72,13 +72,13 @@ def _summed(values: numpy.ndarray) -> numpy.ndarray:
 def _blocks(field: Field, found: sky.Sky, segments: numpy.ndarray) -> _Blocks:
     """The whole blocks of a field: those that its edge cuts are left out."""
     height, width = (side // BLOCK * BLOCK for side in field.shape)
-    area = numpy.bincount(tiles.without_gaps(segments).ravel())
+    area = numpy.bincount(without_gaps(segments).ravel())
     large, parts = area > LARGE, []
     large[0] = False
     for top in range(0, height, MESH):
         rows = slice(max(0, top - BESIDE), min(field.shape[0], top + MESH + BESIDE))
         own = slice(top - rows.start, min(top + MESH, height) - rows.start)
-        labels = tiles.without_gaps(segments[rows])
+        labels = without_gaps(segments[rows])
         seen = looks.seen(field, found, 0, slice(top, min(top + MESH, height)), slice(0, width))
         free = ~sky.grown(labels != 0, BESIDE)[own, :width] & numpy.isfinite(seen)
         seen = numpy.where(free, seen, numpy.float32(0))
@@ -130,8 +130,6 @@ def found(field: Field, wide_sky: sky.Sky, segments: numpy.ndarray, program=None
         pixels = numpy.kron(labels[part] == number, numpy.ones((BLOCK, BLOCK), dtype=bool))
         own = pixels & (numpy.asarray(segments[box.rows, box.columns]) == 0)
         values = numpy.kron(numbers[part], numpy.ones((BLOCK, BLOCK), dtype="i4"))
-        made.append(
-            tiles.moved(nodes.rows(values, own.astype("i4"), numpy.array([1]), [int(base)])[0], box.left, box.top)
-        )
+        made.append(moved(nodes.rows(values, own.astype("i4"), numpy.array([1]), [int(base)])[0], box.left, box.top))
         places.append((box, own))
     return Found(behind_each_other(made) if made else Rows({}), tuple(places))

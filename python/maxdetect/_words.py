@@ -2,9 +2,10 @@
 import argparse
 import math
 import shlex
-from typing import Callable, List, NoReturn, Optional
+from typing import Any, Callable, List, NoReturn, Tuple
 
 from ._errors import Mistake
+from ._limits import Range, Several
 
 
 class Parser(argparse.ArgumentParser):
@@ -31,29 +32,39 @@ def called(name: str) -> Callable[[Callable], Callable]:
     return named
 
 
+def within(range: Range) -> Callable[[str], Any]:
+    """A parser of the numbers of a range."""
+
+    @called("whole number" if range.whole else "number")
+    def parse(text: str) -> Any:
+        value = int(text) if range.whole else float(text)
+        fault = range.wrong(value)
+        if fault:
+            raise argparse.ArgumentTypeError(f"{text} {fault}")
+        return value
+
+    return parse
+
+
+def several(wanted: Several, name: str, form: str = "") -> Callable[[str], Tuple[float, ...]]:
+    """A parser of numbers that are parted by commas, called by this name; `form` is told of them besides."""
+
+    @called(name)
+    def parse(text: str) -> Tuple[float, ...]:
+        found = tuple(float(each) for each in text.split(","))
+        fault = wanted.wrong(found)
+        if fault:
+            raise argparse.ArgumentTypeError(f"{text} {fault}{form}")
+        return found
+
+    return parse
+
+
 def finite(above: float = -math.inf) -> Callable[[str], float]:
     """A parser of finite numbers above a bound."""
-    wanted = "finite number" if above == -math.inf else f"number above {above:g}"
-
-    @called("number")
-    def parse(text: str) -> float:
-        value = float(text)
-        if not math.isfinite(value) or value <= above:
-            raise argparse.ArgumentTypeError(f"{text} isn't a {wanted}")
-        return value
-
-    return parse
+    return within(Range(above, above=above != -math.inf))
 
 
-def whole(least: int, most: Optional[int] = None) -> Callable[[str], int]:
+def whole(least: int, most: float = math.inf) -> Callable[[str], int]:
     """A parser of whole numbers from `least` on, or to `most`."""
-    wanted = f"whole number from {least} {'on' if most is None else f'to {most}'}"
-
-    @called("whole number")
-    def parse(text: str) -> int:
-        value = int(text)
-        if value < least or (most is not None and value > most):
-            raise argparse.ArgumentTypeError(f"{text} isn't a {wanted}")
-        return value
-
-    return parse
+    return within(Range(least, most, whole=True))

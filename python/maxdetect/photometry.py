@@ -19,8 +19,10 @@ import sep
 
 from . import _beside as beside, _boxes as boxes, _shapes as shapes, _totals as totals
 from ._beside import unit_of
+from ._docs import described
 from ._errors import Mistake
 from ._estimates import of_array
+from ._flags import BEYOND, CROWDED, CUT, EDGE, FLAGS, SATURATED, SPLIT, STRUCK, UNDEFINED, WIDE
 from ._nddata import AnyImage, array_of, noise_of
 from ._pointlike import PointSources
 from ._rows import Rows
@@ -43,28 +45,6 @@ __all__ = [
     "measured",
     "sky",
 ]
-
-# The bits of the column FLAGS: Source Extractor's, which SCAMP and PSFEx know.
-CROWDED = 1
-SPLIT = 2
-SATURATED = 4
-EDGE = 8
-BEYOND = 16
-UNDEFINED = 32
-CUT = 64
-STRUCK = 128
-WIDE = 256
-FLAGS = {
-    CROWDED: "its Kron ellipse holds pixels of other sources, or undefined ones",
-    SPLIT: "was split from a neighbour",
-    SATURATED: "has a saturated pixel",
-    EDGE: "touches the image's edge",
-    BEYOND: "its Kron ellipse reaches beyond the image",
-    UNDEFINED: "touches an undefined pixel",
-    CUT: "was cut by a tile",
-    STRUCK: "touches a pixel that a cosmic ray has hit",
-    WIDE: "is wide and faint, found in the means of blocks",
-}
 
 # The Kron radius is sought within this many standard deviations of a source's light, as Source Extractor does; how many
 # Kron radii its ellipse reaches, and how many standard deviations at least, where nothing else is asked.
@@ -108,6 +88,7 @@ def _undefined(image: numpy.ndarray, mask: Optional[numpy.ndarray]) -> numpy.nda
     return numpy.ascontiguousarray(undefined if mask is None else undefined | numpy.asarray(mask, dtype=bool))
 
 
+@described
 def sky(
     image: AnyImage,
     segments: numpy.ndarray,
@@ -130,8 +111,7 @@ def sky(
         The segmentation map: the number of the source to which each pixel belongs, or 0.
     mesh : int, default: 64
         The side of the square cells, in pixels; with 0 the background is one number.
-    mask : array_like of bool, shape (height, width), optional
-        Where it is true, the image is undefined too.
+    {mask}
     local : bool, default: False
         Tells the noise of each pixel, by the cells.
 
@@ -373,6 +353,7 @@ class _Apertures:
         return numpy.where(lost, numpy.nan, flux), numpy.where(lost, numpy.nan, error), told, holed
 
 
+@described
 def measured(
     image: AnyImage,
     background: Numbers,
@@ -408,12 +389,9 @@ def measured(
         others.
     catalogue : astropy.table.Table or mapping from str to array_like
         The catalogue that it answers. NUMBER, centres, boxes and moments are used, and LEVEL and BASE for a flag.
-    mask : array_like of bool, shape (height, width), optional
-        Where it is true, the image is undefined too.
-    gain : float, optional
-        Electrons for a unit of the image; errors have the sources' own noise then.
-    saturation : float, optional
-        From this value on pixels are saturated, in the image's units.
+    {mask}
+    {gain}
+    {saturation}
     apertures : sequence of float, default: (10.0,)
         The diameters of circles, in pixels.
     kron : tuple of float, default: (2.5, 3.5)
@@ -449,37 +427,41 @@ def measured(
     image, noise = array_of(image, mask), noise_of(image, noise)
     if noise is None:
         raise Mistake("the noise is wanted: the image has no uncertainty, and noise= is None")
-    shape = numpy.shape(image)
-    if numpy.shape(segments) != shape:
-        raise ValueError(f"the map has the sides {numpy.shape(segments)}, the image {shape}")
+    if numpy.shape(segments) != numpy.shape(image):
+        raise ValueError(f"the map has the sides {numpy.shape(segments)}, the image {numpy.shape(image)}")
     undefined, noise = _defined(image, mask, noise)
-    residual = residual_of(image, background, undefined)
     segments, numbers = numpy.ascontiguousarray(segments, dtype="i4"), numpy.asarray(catalogue["NUMBER"], dtype="i4")
     pixels = _pixels_of(segments, numbers)
-    unit = unit_of(noise)
-    residual *= numpy.float32(1 / unit)
-    noise = noise / unit if isinstance(noise, float) else numpy.asarray(noise / numpy.float32(unit))
-    gain = gain and gain * unit
-    defined = pixels.among(~undefined)
-    flux, error = _isophotal(defined, residual, noise, gain)
     flags = _flags(pixels, image, undefined, catalogue, numbers, saturation, threshold)
     if struck is not None and struck.any():
         flags |= STRUCK * pixels.having(grown(struck, 1).ravel()[pixels.places])[numbers]
-    gathered = _gathered(defined, residual, catalogue)
-    how = (residual, noise, gain)
-    split = (flags & SPLIT) != 0
-    segments = numpy.abs(segments)
-    sums = _apertures((*how, _Holes(undefined)), segments, catalogue, gathered, apertures, points, split, kron)
+    scene, unit = _scene(image, background, noise, undefined, numpy.abs(segments), gain)
+    defined = pixels.among(~undefined)
+    flux, error = _isophotal(defined, scene.residual, scene.noise, scene.gain)
+    sums = _Sums(scene, catalogue, _gathered(defined, scene.residual, catalogue), kron)
+    columns = sums.columns(apertures, points, (flags & SPLIT) != 0)
     table = Rows({"X": numpy.asarray(catalogue["XCEN"]) / 1000, "Y": numpy.asarray(catalogue["YCEN"]) / 1000})
     table["FLUX_ISO"], table["FLUXERR_ISO"] = flux[numbers] * unit, error[numbers] * unit
-    flags |= sums.pop("FLAGS")
-    more = shapes.columns(
-        shapes.Scene(*how, undefined, segments), seen, defined, catalogue, sums["FLUX_RADIUS"], vignet
-    )
-    for name, values in [*sums.items(), *more.items()]:
+    more = shapes.columns(scene, seen, defined, catalogue, columns["FLUX_RADIUS"], vignet)
+    for name, values in [*columns.items(), *more.items()]:
         table[name] = _in_units(name, values, unit)
-    table["FLAGS"] = flags.astype("i4")
+    table["FLAGS"] = (flags | sums.flags).astype("i4")
     return table
+
+
+def _scene(
+    image: numpy.ndarray,
+    background: Numbers,
+    noise: Numbers,
+    undefined: numpy.ndarray,
+    segments: numpy.ndarray,
+    gain: Optional[float],
+) -> Tuple[shapes.Scene, float]:
+    """What is measured, in units near the noise, and the unit: 32 bits don't hold the squares of all images."""
+    residual, unit = residual_of(image, background, undefined), unit_of(noise)
+    residual *= numpy.float32(1 / unit)
+    noise = noise / unit if isinstance(noise, float) else numpy.asarray(noise / numpy.float32(unit))
+    return shapes.Scene(residual, noise, gain and gain * unit, undefined, segments), unit
 
 
 def _in_units(name: str, values: numpy.ndarray, unit: float) -> numpy.ndarray:
@@ -489,47 +471,72 @@ def _in_units(name: str, values: numpy.ndarray, unit: float) -> numpy.ndarray:
     return values * unit if name.startswith(("FLUX_", "FLUXERR_")) and name != "FLUX_RADIUS" else values
 
 
-def _apertures(how, segments, catalogue, gathered, diameters, points, split, kron) -> Dict[str, numpy.ndarray]:
-    """The columns that SEP measures, and the flags that it tells."""
-    numbers, (residual, noise, gain, holes) = numpy.asarray(catalogue["NUMBER"], dtype="i4"), how
-    x, y = (numpy.asarray(catalogue[name], dtype="f8") / 1000 - 1 for name in ("XCEN", "YCEN"))
-    long, short, angle = ellipses(catalogue)
-    # SEP takes standard deviations along the axes, which are half of the half axes, and radians.
-    axes = (long / 2 * gathered, short / 2 * gathered)
-    shape = (x, y, *axes, numpy.clip(numpy.radians(angle), -numpy.pi / 2, numpy.pi / 2))
-    alone = {"segmap": segments, "seg_id": numbers}
-    radius, _ = sep.kron_radius(residual, *shape, KRON_REACH, **alone)
-    # Noise may leave no light to average over, or a mean that lies outside of where it was sought.
-    radius = numpy.where(numpy.isfinite(radius) & (radius > 0), numpy.minimum(radius, KRON_REACH), 0)
-    radius = numpy.maximum(kron[0] * radius, kron[1])
-    kron_ellipse = _Apertures(sep.sum_ellipse, (*shape, radius), radius * axes[0], 1)
-    flux, error, told, holed = kron_ellipse.fluxes(residual, noise, gain, holes, alone)
+class _Sums:
+    """The sums of SEP's in apertures of sources, and what they tell. `gathered` says by how much closer the light of
+    each lies than its pixels do, and `kron` how far its Kron ellipse reaches.
+    """
 
-    def circle(size: float) -> Tuple[numpy.ndarray, numpy.ndarray]:
+    def __init__(self, scene: shapes.Scene, catalogue: Rows, gathered: numpy.ndarray, kron: Tuple[float, float]):
+        self._scene, self._holes = scene, _Holes(scene.undefined)
+        self._alone = {"segmap": scene.segments, "seg_id": numpy.asarray(catalogue["NUMBER"], dtype="i4")}
+        self._x, self._y = (numpy.asarray(catalogue[name], dtype="f8") / 1000 - 1 for name in ("XCEN", "YCEN"))
+        self._ellipses = ellipses(catalogue)
+        long, short, _ = self._ellipses
+        # SEP takes standard deviations along the axes, which are half of the half axes, and radians.
+        self._axes = (long / 2 * gathered, short / 2 * gathered)
+        self._kron(kron)
+
+    def _fluxes(self, apertures: "_Apertures"):
+        scene = self._scene
+        return apertures.fluxes(scene.residual, scene.noise, scene.gain, self._holes, self._alone)
+
+    def _kron(self, kron: Tuple[float, float]) -> None:
+        """The Kron ellipses, and what is in them."""
+        angle = numpy.clip(numpy.radians(self._ellipses[2]), -numpy.pi / 2, numpy.pi / 2)
+        shape = (self._x, self._y, *self._axes, angle)
+        radius, _ = sep.kron_radius(self._scene.residual, *shape, KRON_REACH, **self._alone)
+        # Noise may leave no light to average over, or a mean that lies outside of where it was sought.
+        radius = numpy.where(numpy.isfinite(radius) & (radius > 0), numpy.minimum(radius, KRON_REACH), 0)
+        radius = numpy.maximum(kron[0] * radius, kron[1])
+        self._long, self._size = radius * self._axes[0], radius * numpy.sqrt(self._axes[0] * self._axes[1])
+        ellipse = _Apertures(sep.sum_ellipse, (*shape, radius), self._long, 1)
+        self._flux, self._error, told, holed = self._fluxes(ellipse)
+        self.flags = CROWDED * (((told & sep.APER_HASMASKED) != 0) | holed) | BEYOND * ((told & sep.APER_TRUNC) != 0)
+
+    def _circle(self, size: float) -> Tuple[numpy.ndarray, numpy.ndarray]:
         """The fluxes in circles of this radius, and their errors."""
-        sizes = numpy.full(len(x), float(size))
-        return _Apertures(sep.sum_circle, (x, y, sizes), sizes, 5).fluxes(residual, noise, gain, holes, alone)[:2]
+        sizes = numpy.full(len(self._x), float(size))
+        return self._fluxes(_Apertures(sep.sum_circle, (self._x, self._y, sizes), sizes, 5))[:2]
 
-    circles = [numpy.stack(it, axis=-1) for it in zip(*(circle(diameter / 2) for diameter in diameters))]
-    in_circle, circle_error = (it[:, 0] if len(diameters) == 1 else it for it in circles)
-    total, total_error = totals.of(points, circle, flux, error, radius * numpy.sqrt(axes[0] * axes[1]), split)
-    reaches = radius * axes[0], numpy.maximum(radius * axes[0], totals.reach(points))
-    lights = list(zip((flux, total), reaches))[: 1 if points is None else 2]
-    diameters_of_half = [_diameter(residual, x, y, within, light, alone) for light, within in lights]
-    flags = CROWDED * (((told & sep.APER_HASMASKED) != 0) | holed) | BEYOND * ((told & sep.APER_TRUNC) != 0)
-    return {
-        "FLUX_AUTO": flux,
-        "FLUXERR_AUTO": error,
-        "FLUX_TOTAL": total,
-        "FLUXERR_TOTAL": total_error,
-        "KRON_RADIUS": radius * axes[0],
-        "FLUX_APER": in_circle,
-        "FLUXERR_APER": circle_error,
-        "A": long,
-        "B": short,
-        "ELONGATION": long / short,
-        "THETA": angle,
-        "FWHM": diameters_of_half[0],
-        "FLUX_RADIUS": diameters_of_half[-1] / 2,
-        "FLAGS": flags,
-    }
+    def _circles(self, diameters: Sequence[float]) -> Tuple[numpy.ndarray, numpy.ndarray]:
+        """The same for several diameters: numbers, or rows of numbers where there are several."""
+        found = zip(*(self._circle(diameter / 2) for diameter in diameters))
+        fluxes, errors = (numpy.stack(it, axis=-1) for it in found)
+        return (fluxes[:, 0], errors[:, 0]) if len(diameters) == 1 else (fluxes, errors)
+
+    def columns(
+        self, diameters: Sequence[float], points: Optional[PointSources], split: numpy.ndarray
+    ) -> Dict[str, numpy.ndarray]:
+        """The columns that SEP measures; `split` says which sources were split from a neighbour."""
+        (long, short, angle), in_circle = self._ellipses, self._circles(diameters)
+        total = totals.of(points, self._circle, self._flux, self._error, self._size, split)
+        lights = [(self._flux, self._long), (total[0], numpy.maximum(self._long, totals.reach(points)))]
+        across = [
+            _diameter(self._scene.residual, self._x, self._y, reach, light, self._alone)
+            for light, reach in lights[: 1 if points is None else 2]
+        ]
+        return {
+            "FLUX_AUTO": self._flux,
+            "FLUXERR_AUTO": self._error,
+            "FLUX_TOTAL": total[0],
+            "FLUXERR_TOTAL": total[1],
+            "KRON_RADIUS": self._long,
+            "FLUX_APER": in_circle[0],
+            "FLUXERR_APER": in_circle[1],
+            "A": long,
+            "B": short,
+            "ELONGATION": long / short,
+            "THETA": angle,
+            "FWHM": across[0],
+            "FLUX_RADIUS": across[-1] / 2,
+        }

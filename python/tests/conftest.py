@@ -22,6 +22,17 @@ def pytest_collection_modifyitems(items):
             item.add_marker(pytest.mark.skip(reason="the environment's MAXDETECT names no program"))
 
 
+def cut_into_tiles(monkeypatch, side):
+    """From here on images are cut into tiles with this side where nothing else is asked."""
+    from maxdetect import _detection as detection
+    from maxdetect._settings import Settings
+
+    defaults = dict(zip(Settings.__dataclass_fields__, Settings.__init__.__defaults__))
+    monkeypatch.setattr(detection, "TILE", side)
+    monkeypatch.setattr(Settings, "tile", side)
+    monkeypatch.setattr(Settings.__init__, "__defaults__", (*{**defaults, "tile": side}.values(),))
+
+
 def add_star(image, x, y, flux, width=3.0):
     """A star with a Moffat profile of beta 3; places count from 0."""
     core = width / 2 / (2 ** (1 / 3) - 1) ** 0.5

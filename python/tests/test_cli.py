@@ -12,8 +12,8 @@ from astropy.io import fits
 from astropy.table import Table
 from astropy.wcs import WCS
 
-from conftest import TOP
-from maxdetect import _cataloguing as cataloguing, _cli as cli, _detection as detection, photometry, _tables as tables
+from conftest import TOP, cut_into_tiles
+from maxdetect import _cli as cli, photometry, _regions as regions, _running as running, _tables as tables
 from maxdetect._columns import CATALOGUE
 
 
@@ -43,7 +43,7 @@ def told(capsys, *words):
     before = sorted(os.listdir("."))
     assert cli.main([str(word) for word in words]) == 2
     out, err = capsys.readouterr()
-    assert out == "" and err.startswith("maxcat: ") and err.endswith("\n") and err.count("\n") == 1
+    assert (out, err.count("\n")) == ("", 1) and err.startswith("maxcat: ") and err.endswith("\n"), err
     assert sorted(os.listdir(".")) == before
     return err
 
@@ -84,11 +84,7 @@ def test_a_star_field(here, stars, capsys):
 )
 def test_tiles_give_what_the_whole_gives(here, monkeypatch, words):
     whole = catalogue("image.fits", "-o", "whole.fits", "--map", "whole.map.fits", *words)
-    monkeypatch.setattr(detection, "TILE", 90)
-    monkeypatch.setattr(detection.Settings, "tile", 90)
-    monkeypatch.setattr(
-        detection.Settings.__init__, "__defaults__", (*detection.Settings.__init__.__defaults__[:-2], 90, 1)
-    )
+    cut_into_tiles(monkeypatch, 90)
     tiled = catalogue("image.fits", "-o", "tiled.fits", "--map", "tiled.map.fits", "--workers", 3, *words)
     assert len(whole) == len(tiled) > 20
     for name in CATALOGUE:
@@ -286,6 +282,24 @@ WRONG = [
     (["nothing.fits"], "no pixel"),
     (["text.fits"], "text.fits"),
     (["text.fits", "--plot", "a.png", "--crop", "1,9,1,9"], "text.fits"),
+    (["image.fits", "--survey", "s.db", "--field", "a field"], "'a field' is no field's name"),
+    (["image.fits", "--survey", "no/s.db", "--field", "A"], "no/s.db can't be written"),
+    (["image.fits", "--survey", "s.db", "--hdu", "all"], "--survey is for one HDU of each image"),
+    (["image.fits", "flat.fits", "--survey", "s.db", "--field", "A"], "--field is for one image, not 2"),
+    (["image.fits", "other/image.fits", "--survey", "s.db"], "two images would be the survey's field image"),
+    (["image.fits", "--survey", "s.db", "--resume"], "--resume and --survey exclude each other"),
+    (["image.fits", "--field", "A"], "--field wants a --survey"),
+    (["image.fits", "--survey-unit", "2"], "--survey-unit wants a --survey"),
+    (["image.fits", "--weight", "ones.fits", "--rms", "local"], "--rms local and --weight exclude each other"),
+    (["image.fits", "--measure-weight", "ones.fits"], "--measure-weight wants a --measure"),
+    (["image.fits", "--measure-weight-type", "rms"], "wants a --measure-weight or a --band-weight"),
+    (["image.fits", "--flag-map", ""], "--flag-map has an empty name"),
+    (["image.fits", "--columns", ","], "--columns: , has no name"),
+    (["image.fits", "--columns", "1X,NOTHING"], "--columns: maxcat has no 1X, NOTHING"),
+    (["image.fits", "--columns", "X,VIGNET"], "VIGNET wants its side"),
+    (["image.fits", "--columns", "X,MAG_AUTO"], "this image's sources have no MAG_AUTO (they want --zeropoint"),
+    (["image.fits", "--columns", "X,IMAFLAGS"], "this image's sources have no IMAFLAGS (IMAFLAGS wants --flag-map"),
+    (["image.fits", "--columns", "latin.txt"], "--columns: latin.txt can't be read as a list of names"),
 ]
 
 
@@ -298,6 +312,9 @@ def test_mistakes_are_one_line_and_leave_nothing(here, capsys, words, text):
     fits.writeto("huge.fits", fits.getdata("image.fits").astype("f8") * 1e200)
     fits.writeto("tiny.fits", fits.getdata("image.fits") * 1e-36)
     (here / "text.fits").write_text("text\n")
+    (here / "latin.txt").write_bytes(b"X\n\xe9\n")
+    (here / "other").mkdir()
+    fits.writeto("other/image.fits", numpy.ones((9, 9), dtype="f4"))
     assert text in told(capsys, *words)
 
 
@@ -361,9 +378,9 @@ def test_a_full_disk(here, capsys, monkeypatch):
     assert fits.getdata("map.fits").max() == len(table)
 
 
-@pytest.mark.parametrize("written, name", [("write", "cat.fits"), ("regions", "all.reg")])
-def test_all_files_or_none(here, capsys, monkeypatch, written, name):
-    monkeypatch.setattr(tables, written, failing(errno.ENOSPC))
+@pytest.mark.parametrize("module, name", [(tables, "cat.fits"), (regions, "all.reg")], ids=["tables", "regions"])
+def test_all_files_or_none(here, capsys, monkeypatch, module, name):
+    monkeypatch.setattr(module, "write", failing(errno.ENOSPC))
     assert told(capsys, *ALL) == f"maxcat: {name}: No space left on device\n"
     (here / "cat.fits").write_text("earlier")
     told(capsys, *ALL)
@@ -392,7 +409,7 @@ def test_bad_images_among_good_ones(here, capsys, workers):
 @pytest.mark.parametrize("workers, images", [(1, 1), (2, 1), (2, 2)])
 @pytest.mark.parametrize("number", [signal.SIGINT, signal.SIGTERM, signal.SIGHUP])
 def test_a_signal_leaves_nothing(here, number, workers, images):
-    (here / "slow").write_text("#!/bin/sh\ntouch started\nexec sleep 2\n")
+    (here / "slow").write_text("#!/bin/sh\ntouch started\nexec sleep 60\n")
     (here / "slow").chmod(0o755)
     os.link("image.fits", "other.fits")
     environment = {**os.environ, "PYTHONPATH": str(TOP / "python"), "MAXDETECT": str(here / "slow")}
@@ -414,7 +431,7 @@ def test_a_signal_leaves_nothing(here, number, workers, images):
 @pytest.mark.parametrize("number", [signal.SIGINT, signal.SIGTERM, signal.SIGHUP])
 def test_signals_are_as_before(monkeypatch, number):
     seen = []
-    monkeypatch.setattr(cataloguing, "run", lambda given: seen.append(signal.getsignal(number)))
+    monkeypatch.setattr(running, "run", lambda given: seen.append(signal.getsignal(number)))
     earlier = signal.signal(number, signal.SIG_DFL)
     try:
         assert cli.main(["image.fits"]) == 0 and signal.getsignal(number) is signal.SIG_DFL is not seen[0]

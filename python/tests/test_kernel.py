@@ -71,12 +71,14 @@ def test_a_build_ends_with_the_command_that_began_it(tmp_path, number):
     build.write_text(BUILD.format(folder=tmp_path))
     build.chmod(0o755)
     around = {"PATH": "/bin:/usr/bin", "PYTHONPATH": str(TOP / "python")}
-    with subprocess.Popen([sys.executable, "-c", FINDS.format(folder=tmp_path)], env=around) as command:
-        until = time.monotonic() + 30
+    # The tests may run where it is ignored, as in a shell's background.
+    heard = {"preexec_fn": lambda: signal.signal(number, signal.SIG_DFL)}
+    with subprocess.Popen([sys.executable, "-c", FINDS.format(folder=tmp_path)], env=around, **heard) as command:
+        until = time.monotonic() + 300
         while not (tmp_path / "begun").exists() and time.monotonic() < until:
             time.sleep(0.05)
         command.send_signal(number)
-        assert command.wait(30) == 128 + number
+        assert command.wait(300) == 128 + number
     assert (tmp_path / "ended").exists()
 
 
@@ -220,8 +222,10 @@ def test_the_program_gets_large_pages_unless_the_caller_says_otherwise(monkeypat
     monkeypatch.setenv("GLIBC_TUNABLES", "")
     with pytest.raises(maxdetect.Refusal, match="it has [.]"):
         maxdetect.tree(SMALL, program=program)
-    for text in ("maxdetect", "docs/maxdetect.1"):
-        assert kernel.LARGE_PAGES in (TOP / text).read_text(encoding="utf-8")
+    assert kernel.LARGE_PAGES in (TOP / "maxdetect").read_text(encoding="utf-8")
+    # The man page cuts the long word in two and lets a line end behind each colon.
+    page = (TOP / "docs/maxdetect.1").read_text(encoding="utf-8")
+    assert kernel.LARGE_PAGES in page.replace("\n.as tune ", "").replace("\\:", "")
 
 
 def test_other_outputs_of_a_program_are_told(tmp_path):

@@ -11,7 +11,7 @@ from scipy import ndimage
 
 from conftest import TOP
 from maxdetect import _sky as sky, _smoothing as smoothing, _unittexts as unittexts
-from maxdetect._tables import COLUMNS
+from maxdetect._finishing import COLUMNS
 
 HEAVY = (
     "astropy.table",

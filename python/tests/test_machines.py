@@ -7,8 +7,8 @@ import pytest
 from astropy.io import fits
 from astropy.table import Table
 
-from conftest import TOP
-from maxdetect import _cataloguing as cataloguing, _cli as cli, _detection as detection
+from conftest import TOP, cut_into_tiles
+from maxdetect import _cli as cli, _running as running
 
 
 @pytest.fixture
@@ -22,21 +22,18 @@ def images(tmp_path, monkeypatch, stars):
 def test_a_worker_that_is_killed(images, monkeypatch):
     distributed = pytest.importorskip("distributed", reason="wants Dask (Debian: python3-distributed)")
     assert cli.main(["a.fits", "-o", "whole.fits", "--map", "whole.map.fits"]) == 0
-    defaults = detection.Settings.__init__.__defaults__
-    monkeypatch.setattr(detection, "TILE", 90)
-    monkeypatch.setattr(detection.Settings, "tile", 90)
-    monkeypatch.setattr(detection.Settings.__init__, "__defaults__", (*defaults[:-2], 90, 1))
+    cut_into_tiles(monkeypatch, 90)
     monkeypatch.setenv("PYTHONPATH", os.fspath(TOP / "python"))
     how = {"n_workers": 2, "threads_per_worker": 1, "processes": True, "dashboard_address": None}
     with distributed.LocalCluster(**how) as cluster:
-        left, told = [cluster.workers[0].pid], cataloguing._Progress.__call__
+        left, told = [cluster.workers[0].pid], running._Progress.__call__
 
         def killing(self, count):
             if left:
                 os.kill(left.pop(), signal.SIGKILL)
             told(self, count)
 
-        monkeypatch.setattr(cataloguing._Progress, "__call__", killing)
+        monkeypatch.setattr(running._Progress, "__call__", killing)
         words = ["a.fits", "-o", "cat.fits", "--map", "map.fits", "--scheduler", cluster.scheduler_address]
         assert cli.main(words) == 0 and not left
     whole, found = (Table.read(name, hdu="SOURCES") for name in ("whole.fits", "cat.fits"))

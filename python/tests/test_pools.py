@@ -11,7 +11,7 @@ import pytest
 from astropy.io import fits
 
 from conftest import add_star
-from maxdetect import _cataloguing as cataloguing, _cli as cli, _pools as pools
+from maxdetect import _cataloguing as cataloguing, _cli as cli, _pools as pools, _running as running
 from maxdetect._errors import Mistake
 
 TOP = pathlib.Path(__file__).resolve().parent.parent.parent
@@ -87,7 +87,7 @@ def test_a_worker_that_is_killed_is_told_in_one_line(here, names, monkeypatch, c
         os.kill(os.getpid(), signal.SIGKILL)
 
     # Workers are forked, so they have what stands in its place here.
-    monkeypatch.setattr(cataloguing.measuring.photometry, "measured", killing)
+    monkeypatch.setattr(running.measuring.photometry, "measured", killing)
     assert cli.main([*names, "--workers", "2"]) == 2
     lines = capsys.readouterr().err.splitlines()
     assert lines == [f"maxcat: {name}: {pools.Lost()}" for name in names]
@@ -113,14 +113,14 @@ def test_a_signal_leaves_nothing(here, names, number, monkeypatch):
     words = [sys.executable, "-m", "maxdetect._cli", *names, "--workers", "2"]
     heard = {"preexec_fn": lambda: signal.signal(signal.SIGINT, signal.SIG_DFL)}
     with subprocess.Popen(words, cwd=here, env=ENVIRONMENT, stderr=subprocess.PIPE, text=True, **heard) as running:
-        until = time.monotonic() + 60
+        until = time.monotonic() + 300
         while len(left(here)) < 3 and running.poll() is None and time.monotonic() < until:
             time.sleep(0.01)
         time.sleep(0.1)
         running.send_signal(number)
-        told = running.communicate(timeout=60)[1]
+        told = running.communicate(timeout=300)[1]
     assert running.returncode in (128 + number, 0) and told == ""
-    until = time.monotonic() + 10
+    until = time.monotonic() + 300
     while left(here) and time.monotonic() < until:
         time.sleep(0.05)
     assert not left(here) and not list(here.glob(".maxdetect*"))

@@ -1,4 +1,5 @@
 """Which names are public, what becomes of the others, and that the package says so to tools."""
+import ast
 import os
 import pickle
 import re
@@ -77,3 +78,39 @@ def test_tools_are_told_that_there_are_types():
     assert (PACKAGE / "py.typed").exists()
     assert "py.typed" in (TOP / "python/pyproject.toml").read_text(encoding="utf-8")
     assert "py.typed" in (TOP / "scripts/install").read_text(encoding="utf-8")
+
+
+def imported(path):
+    """The modules of the package that a module loads, at once or when they are wanted."""
+    tree = ast.parse(path.read_text(encoding="utf-8"))
+    for_types = {
+        line
+        for part in ast.walk(tree)
+        if isinstance(part, ast.If) and "TYPE_CHECKING" in ast.unparse(part.test)
+        for line in part.body
+    }
+    own = [it for it in ast.walk(tree) if isinstance(it, ast.ImportFrom) and it.level == 1 and it not in for_types]
+    names = {name for it in own for name in ([it.module] if it.module else [alias.name for alias in it.names])}
+    return names & set(MODULES)
+
+
+def test_modules_stand_on_each_other_in_one_direction():
+    left = {name: imported(PACKAGE / f"{name}.py") for name in MODULES}
+    while left:
+        lowest = {name for name, below in left.items() if not below & set(left)}
+        assert lowest, f"these stand on each other in a circle: {sorted(left)}"
+        left = {name: below for name, below in left.items() if name not in lowest}
+
+
+def test_each_module_stands_in_the_architecture():
+    text = (TOP / "docs/ARCHITECTURE.md").read_text(encoding="utf-8").partition("## The Python package")[2]
+    told = re.findall(r"`(_?[a-z]+(?:_[a-z]+)*)`", text)
+    assert set(MODULES) <= set(told)
+
+
+def test_images_and_surveys_load_no_sep():
+    """They want neither the program nor SEP, which is a wheel of its own for each Python."""
+    script = "import sys, maxdetect; maxdetect.save, maxdetect.survey, maxdetect.load; print('sep' in sys.modules)"
+    environment = {**os.environ, "PYTHONPATH": str(TOP / "python")}
+    done = subprocess.run([sys.executable, "-c", script], env=environment, capture_output=True, text=True, check=True)
+    assert done.stdout == "False\n"

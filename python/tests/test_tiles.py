@@ -6,7 +6,13 @@ import pytest
 from scipy import ndimage
 
 import maxdetect
-from maxdetect import _background as background, _detection as detection, photometry, _tiles as tiles
+from maxdetect import (
+    _background as background,
+    _detection as detection,
+    photometry,
+    _tiles as tiles,
+    _windows as windows,
+)
 from maxdetect._arrays import ArrayPlane
 
 WORDS = {"min_area": 3, "connect": 8}
@@ -85,7 +91,7 @@ def test_components_that_go_around_a_corner(monkeypatch):
 def test_tiles_of_any_shape(seed, monkeypatch):
     rng = numpy.random.default_rng(seed)
     monkeypatch.setattr(tiles, "MARGIN", int(rng.choice([2, 8])))
-    for height, width, mesh in zip(*rng.integers(1, 90, (2, 12)), rng.choice([0, 4, 16], 12)):
+    for height, width, mesh in zip(*rng.integers(1, 90, (2, 6)), rng.choice([0, 4, 16], 6)):
         image = rng.integers(0, 10, (height, width)) + numpy.indices((height, width)).sum(axis=0) // 7
         image = numpy.ma.MaskedArray(image, mask=rng.random(image.shape) < rng.choice([0, 0.1, 0.4]))
         options = dict(mesh=int(mesh), flat=bool(rng.integers(2)), connect=int(rng.choice([4, 8])))
@@ -96,7 +102,7 @@ def test_tiles_of_any_shape(seed, monkeypatch):
 
 
 def test_components_that_no_window_holds_are_cut(monkeypatch):
-    monkeypatch.setattr(tiles, "MOST_PIXELS", 90 * 90)
+    monkeypatch.setattr(windows, "MOST_PIXELS", 90 * 90)
     monkeypatch.setattr(tiles, "MARGIN", 8)
     image = numpy.zeros((200, 200), dtype="i4")
     image[10, 5:195] = image[10:195, 5] = 100
@@ -109,7 +115,7 @@ def test_components_that_no_window_holds_are_cut(monkeypatch):
 
 
 def test_no_window_is_larger_than_the_program_takes(monkeypatch):
-    monkeypatch.setattr(tiles, "MOST_PIXELS", 80 * 80)
+    monkeypatch.setattr(windows, "MOST_PIXELS", 80 * 80)
     monkeypatch.setattr(tiles, "MARGIN", 8)
     detect, sizes = tiles.kernel.detect, []
 
@@ -124,7 +130,7 @@ def test_no_window_is_larger_than_the_program_takes(monkeypatch):
 
 def test_what_one_tile_holds_is_cut_by_none(monkeypatch):
     # The part that each tile sees grows to a window that the program doesn't take, where a smaller one holds all.
-    monkeypatch.setattr(tiles, "MOST_PIXELS", 48 * 48)
+    monkeypatch.setattr(windows, "MOST_PIXELS", 48 * 48)
     monkeypatch.setattr(tiles, "MARGIN", 8)
     image = numpy.zeros((96, 96), dtype="i4")
     image[25, 18:46] = image[25:49, 45] = 100
@@ -141,7 +147,7 @@ def test_what_is_not_cut_is_the_wholes(mesh, monkeypatch):
         options = dict(mesh=mesh, connect=8, min_area=2)
         whole, its_map = maxdetect.detect(image, 7 - mesh // 2, **options)
         with monkeypatch.context() as patched:
-            patched.setattr(tiles, "MOST_PIXELS", 48 * 48)
+            patched.setattr(windows, "MOST_PIXELS", 48 * 48)
             table, segments = maxdetect.detect_tiles(image, 7 - mesh // 2, 16, **options)
         for row in table:
             if row["NUMBER"] not in table.meta.get("CUT", []):
@@ -169,7 +175,7 @@ def test_a_last_cell_of_one_pixel_without_a_value(shape, monkeypatch):
     image[:, -1] = image[-1] = numpy.ma.masked
     options = dict(mesh=4, connect=8)
     whole = maxdetect.detect(image, 90, **options)
-    monkeypatch.setattr(tiles, "MOST_PIXELS", 56 * 56)
+    monkeypatch.setattr(windows, "MOST_PIXELS", 56 * 56)
     are_the_same(whole, maxdetect.detect_tiles(image, 90, 16, **options))
     assert whole[0]["XMAX"].max() == shape[1] - 1 and whole[0]["YMAX"].max() == shape[0] - 1
     with pytest.raises(ValueError, match="cells of 2 pixels"):
@@ -240,7 +246,7 @@ def test_components_are_cut_by_squares_whatever_the_tiles(monkeypatch, stars):
     rows, columns = numpy.mgrid[:256, :256]
     image = (stars[0] + 900 * numpy.exp(-((rows - 128) ** 2 + (columns - 120) ** 2) / 8000)).astype("f4")
     found = []
-    monkeypatch.setattr(tiles, "MOST_PIXELS", 100**2)
+    monkeypatch.setattr(windows, "MOST_PIXELS", 100**2)
     for tile, margin, square in ((64, 16, 1), (32, 8, 2)):
         monkeypatch.setattr(detection, "MARGIN", margin)
         monkeypatch.setattr(detection, "SQUARE", square)

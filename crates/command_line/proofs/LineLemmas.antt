@@ -54,9 +54,6 @@ pub line_flushed : {T E : Type 0} (a b c : Option (List ℕ)) (r : Result T E) (
     → OnOk r (Moves b c v w) → OnOk r (w ≡ []) → OnErr r (AppendsPrefix b c v) → PutAppends a c r xs
 line_flushed a b c r start xs v w empty moved ok done err = Moves-flushed a b c r xs v w (subst (λ l. Moves a b (l ++ xs) v) empty moved) ok done err
 
-pub front_empty : (a b : Option (List ℕ)) (start xs : List ℕ) → start ≡ [] → AppendsPrefix a b (start ++ xs) → AppendsPrefix a b xs
-front_empty a b start xs empty front = subst (λ l. AppendsPrefix a b (l ++ xs)) empty front
-
 pub text_at : (pieces : List (Bor (List ℕ))) (i : ℕ) (d : Bor (List ℕ)) → i < length pieces → (get_or pieces i d).now ≡ get_or (texts pieces) i []
 text_at pieces i d h = sym (get_or-map (λ (piece : Bor (List ℕ)). piece.now) pieces i d [] h)
 

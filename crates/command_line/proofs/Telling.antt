@@ -4,17 +4,15 @@ use Rattle.std.specs.Prelude.{is_ok}
 use Rattle.std.specs.declared.option.Option.{Option}
 use Rattle.std.specs.Io.KnownBytes.{Appends, Keeps}
 use Rattle.std.proofs.KnownBytes.{Appends-kept}
-use Rattle.dev_io.specs.Causes.{Rose, HasCause}
+use Rattle.dev_io.specs.Causes.{HasCause}
 use Rattle.dev_io.specs.Streams.{AppendsPrefix}
+use Rattle.dev_io.proofs.Exported.{rose_since}
 use Rattle.command_line.specs.Notes.{Noted}
 
 -- a line that was cut short
 pub noted_front : {T E : Type 0} (a b : Option (List ℕ)) (settled : Bool) (m n : ℕ) (line : List ℕ) (e : E) → AppendsPrefix a b line
     → HasCause {T = T} {E = E} m n (Err e) → Noted a b settled m n line
 noted_front a b settled m n line e front cause = record { later = cause.later; front = front; whole = inl cause.failed }
-
-rose_since : (a b c : ℕ) → a ≤ b → Rose b c → Rose a c
-rose_since a b c before rose = omega (arith, before, rose)
 
 -- a whole line, and the call that hands it on
 pub noted_line : {T E : Type 0} (a b c : Option (List ℕ)) (settled : Bool) (l m n : ℕ) (line : List ℕ) (done : Result T E) → Appends a b line → l ≤ m

@@ -5,7 +5,7 @@ use Rattle.std.proofs.Common.{◌≡◌, ℕ, ◌<◌, ◌≤◌, true, length, 
 use Rattle.std.specs.Prelude.{IsTrue, ℤ, int_le, Option, pos, unwrap_or, ◌↔◌}
 use Rattle.std.proofs.lemmas.Bool.{cases_lt}
 use Rattle.comp_tree.specs.declared.shape.Connect.{Connect}
-use Rattle.comp_tree.specs.Raster.{Raster, pixels, value_at, at_least, is_defined, level, is_at_least}
+use Rattle.comp_tree.specs.Raster.{Raster, value_at, at_least, is_defined, level, is_at_least}
 use Rattle.comp_tree.specs.Grid.{IsAdjacency}
 use Rattle.comp_tree.specs.Joined.{IsPairOf}
 use Rattle.comp_tree.specs.Components.{reaches, representative, nodes, node_of, is_in_node}
@@ -18,10 +18,10 @@ use Rattle.comp_tree.proofs.Joining.{joined_pair, along_joined}
 use Rattle.comp_tree.proofs.Reaching.{defined_from_at_least, reaches-is_IsReached}
 use Rattle.comp_tree.proofs.Ordering.{ordered-same_place}
 use Rattle.comp_tree.proofs.Components.{top-representative}
-use Rattle.comp_tree.proofs.Nesting.{among_pixels, in_node_from_among}
+use Rattle.comp_tree.proofs.Nesting.{among_pixels, in_node_from_among, rising_pixels_of}
 use Rattle.comp_tree.proofs.Nodes.{IsPlace, IsRepresentative, at_least-lower, is_representative-parts, level_from_at_least, node_of-is, nodes-ordered}
 use Rattle.comp_tree.proofs.Nodes.{reaches_end, reaches_here, reaches_start, reaches_trans, representative-is, representative-unique}
-use Rattle.lemmas.proofs.Exported.{ArePaired, HasPartnerIn, IsRising, paired_from_rising, rising-pixels}
+use Rattle.lemmas.proofs.Exported.{ArePaired, HasPartnerIn, paired_from_rising}
 
 -- the pairs in their other order
 abbrev pub turned : (ℕ → ℕ → Type 0) → ℕ → ℕ → Type 0
@@ -249,10 +249,6 @@ module _ (r s : Raster) (connect : Connect) (h : ℤ) (R : ℕ → ℕ → Type 
       b : IsReachedThere s connect (level r (top_of r connect n)) R (top_of s connect m) t
       b = along_reached r s connect h R a (level r (top_of r connect n)) (top_of r connect n) (top_of s connect m) t
           (along_low r s connect h R a (top_of r connect n) (top_of s connect m) c.top) c.top inside
-
-rising_pixels_of : (x : Raster) (connect : Connect) (j : ℕ) → IsRising (pixels_of x connect j)
-unfolding pixels_of pixels
-rising_pixels_of x connect j = rising-pixels (is_in_node x connect j) (length x.values)
 
 -- the lists of their pixels too
 pub counterparts_pixels : (r s : Raster) (connect : Connect) (h : ℤ) (R : ℕ → ℕ → Type 0) (n m : ℕ) → ArePairedAbove r s connect h R

@@ -25,7 +25,7 @@ pub use Rattle.comp_tree.proofs.Reaching.{among_from_defined, below_from_defined
 pub use Rattle.comp_tree.proofs.Nodes.{at_least-from, at_least-lower, at_least-own, defined_from_reached, level_from_at_least, reaches_end, reaches_here}
 pub use Rattle.comp_tree.proofs.Nodes.{reaches_lower, reaches_start, reaches_sym, reaches_trans}
 -- the neighbours of a pixel stand in its row and the rows beside it
-pub use Rattle.comp_tree.proofs.Nearby.{far_rows_above, far_rows_below, filter-skip, neighbours-at, row-from}
+pub use Rattle.comp_tree.proofs.Nearby.{far_rows_above, far_rows_below, filter-skip, neighbours-at, row-from, row_below}
 pub use Rattle.comp_tree.proofs.Adjacent.{adjacent_ends, adjacent_from, adjacent_near, adjacent_turned, are_neighbours_comm, neighbours_eight, neighbours_four}
 -- the representative of a component, the number of a pixel's node, and the candidates for a parent, by what they are
 pub use Rattle.comp_tree.proofs.Nodes.{IsCandidate, IsPlace, IsRepresentative, ParentCase, candidate-from, candidate-parts, child, is_representative-parts}
@@ -33,11 +33,13 @@ pub use Rattle.comp_tree.proofs.Nodes.{node-unique, node_of-is, parent-case, par
 -- components of nodes: each component of a threshold set is that of a node; the pixel that represents a node; nested components by their pixels
 pub use Rattle.comp_tree.proofs.Components.{each_component_is_a_node, node_of_top, top-defined, top-representative}
 pub use Rattle.comp_tree.proofs.Nesting.{all_from, all_gives, among_pixels, in_node-defined, in_node_from_among, test_from_within, top_inside, within_from_test}
+pub use Rattle.comp_tree.proofs.Nesting.{rising_pixels_of}
 -- the rows of a plane's tree: how many, what each holds, its parent, and that the nodes on the way upwards are the larger ones
 pub use Rattle.comp_tree.proofs.Ancestors.{IsParent, ancestors_are_the_larger_nodes, below_no_node, length-rows, parent-candidate, parent-of_node}
 pub use Rattle.comp_tree.proofs.Ancestors.{pixels_belong_to_their_ancestors, rows-are}
 -- `tree_of` has the properties of a tree, and what has them is `tree_of`; its numbers are those of pixels and rows
-pub use Rattle.comp_tree.proofs.OneTree.{IsImage, get-map, get-pixels, get_from_map, get_is, make_tree, ordered-equal, read-node_of, tree_of-is}
+pub use Rattle.comp_tree.proofs.OneTree.{IsImage, get-map, get-pixels, get_from_map, get_is, make_tree, ordered-equal, read-node_of}
+pub use Rattle.comp_tree.proofs.OneTree.{rep-of, reps_of, tree_of-is}
 pub use Rattle.comp_tree.proofs.WellFormed.{tree_of-well_formed}
 -- its shape is the plane's, and it has a number for each pixel
 pub use Rattle.comp_tree.proofs.WellFormed.{shape-of, length-numbers}
@@ -53,7 +55,7 @@ pub use Rattle.comp_tree.proofs.Representatives.{before_level, last_earlier, las
 -- representatives and parents, read off a forest that stands for a plane's adjacencies
 pub use Rattle.comp_tree.proofs.Canonical.{last_is, last_own, level-value, link_from_representative, parent_from_link, representative_from_link, value-level}
 -- a shape is that of its sides, and a plane that of its shape and values; a plane that is written pixel by pixel
-pub use Rattle.comp_tree.proofs.Shapes.{raster_is, shape_by_sides, shape_of_sides, usual_sides}
+pub use Rattle.comp_tree.proofs.Shapes.{raster_is, shape_by_sides, shape_if-true, shape_of_sides, usual_sides}
 pub use Rattle.comp_tree.proofs.Writing.{written_all, written_itself, written_next, written_none}
 -- two planes whose pixels of at least a level stand in pairs: partners have one level, reach the same partners, and their representatives are
 -- partners; nodes that partners represent are counterparts, of one level and with paired pixels
@@ -65,10 +67,11 @@ pub use Rattle.comp_tree.proofs.Alike.{AlikeAbove, InPlace, IsCounterpart, above
 pub use Rattle.comp_tree.proofs.Alike.{counterpart_in_place, counterpart_pixels, counterpart_sym, counterpart_test, in_place_above, reached_high}
 -- a plane and its window are paired so: the window's pixels have one place each, keep order, neighbours and values, and its sure components
 -- are the whole's
-pub use Rattle.comp_tree.proofs.Windows.{AreSurePair, IsAt, at_order, in_whole-at, in_whole-below, in_whole-one, pair_at, seen-length, seen-shape}
+pub use Rattle.comp_tree.proofs.Windows.{AreSurePair, IsAt, at_neighbours, at_order, in_whole-at, in_whole-below, in_whole-one, pair_at, seen-length, seen-shape}
 pub use Rattle.comp_tree.proofs.Windows.{seen-value, some_columns, sure_components_are_seen, sure_components_are_the_same, sure_same, window_along}
 pub use Rattle.comp_tree.proofs.Windows.{window_whole_below}
 -- the parent and the level that a row names are those of the tree at the row's number
 pub use Rattle.comp_tree.proofs.WellFormed.{row-parent, row_level}
 -- the bound of values, by how many pixels there are: never above 2 ^ 37, that of few pixels, and that of the sum of all
 pub use Rattle.comp_tree.proofs.Values.{bound_least, bound_most, bound_of_sum, half_most, half_twice, usual_bound, usual_half, within_half, within_more, within_range, within_small, within-set}
+pub use Rattle.comp_tree.proofs.Values.{in_range-value, some_within}

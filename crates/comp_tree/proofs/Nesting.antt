@@ -7,7 +7,7 @@ use Rattle.comp_tree.specs.Raster.{Raster, pixels, level, is_defined}
 use Rattle.comp_tree.specs.Components.{nodes, is_in_node}
 use Rattle.comp_tree.specs.Nesting.{pixels_of, lies_within}
 use Rattle.comp_tree.specs.Laws.{top_of, IsNestedIn, LiesWithinIsInclusion}
-use Rattle.lemmas.proofs.Exported.{IsAmong, among-filter, among_from_filter}
+use Rattle.lemmas.proofs.Exported.{IsAmong, IsRising, among-filter, among_from_filter, rising-pixels}
 use Rattle.comp_tree.proofs.Reaching.{among_from_defined}
 use Rattle.comp_tree.proofs.Components.{top-here}
 use Rattle.comp_tree.proofs.Nodes
@@ -40,6 +40,10 @@ among_pixels r connect n q h = among-filter (is_in_node r connect n) q (pixels r
 pub in_node_from_among : (r : Raster) (connect : Connect) (n q : ℕ) → IsAmong q (pixels_of r connect n) → is_in_node r connect n q ≡ true
 unfolding pixels_of
 in_node_from_among r connect n q m = (among_from_filter (is_in_node r connect n) q (pixels r) m).1
+
+pub rising_pixels_of : (r : Raster) (connect : Connect) (n : ℕ) → IsRising (pixels_of r connect n)
+unfolding pixels_of pixels
+rising_pixels_of r connect n = rising-pixels (is_in_node r connect n) (length r.values)
 
 -- ---- the test
 

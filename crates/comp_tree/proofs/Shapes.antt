@@ -36,7 +36,7 @@ within_from width height limits =
     let few_pixels = limits.few_pixels in
     grind (arith, nat_tests)
 
-shape_if-true : (width height : ℕ) (within : Bool) (limits : within ≡ true → IsWithinLimits width height) (s : Shape) → within ≡ true → s.width ≡ width
+pub shape_if-true : (width height : ℕ) (within : Bool) (limits : within ≡ true → IsWithinLimits width height) (s : Shape) → within ≡ true → s.width ≡ width
     → s.height ≡ height → shape_if width height within limits ≡ Some s
 shape_if-true width height true limits s h p q = ap Some (sym (shape_by_sides s (sided width height (limits refl)) p q))
 shape_if-true width height false limits s h p q = absurd (cc)

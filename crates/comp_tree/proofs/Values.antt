@@ -10,7 +10,8 @@ use Rattle.std.proofs.lemmas.List.Folds.{list_all_more}
 use Rattle.comp_tree.specs.Limits.{most_pixels, IsWithin, IsWithinRange, IsInHalfRange, value_bound, half_bound}
 use Rattle.comp_tree.specs.declared.shape.Shape.{Shape}
 use Rattle.comp_tree.specs.Raster.{Raster, HasValuesInRange, HasValuesWithin, value_at, is_pixel_value, raster_of}
-use Rattle.comp_tree.specs.Numbers.{undefined_number, undefined_short, most_short, pixel_of}
+use Rattle.comp_tree.specs.Limits.{undefined_number}
+use Rattle.comp_tree.specs.Numbers.{undefined_short, most_short, pixel_of}
 use Rattle.lemmas.proofs.Exported.{int_eq-true, int_le-true}
 use Rattle.std.proofs.lemmas.Bool.{and_parts, ne_eqb, cond-true}
 use Rattle.std.proofs.lemmas.Bool.Decides.{nat_tests}

@@ -4,11 +4,7 @@ use Rattle.std.specs.Ordering.{int_eq}
 use Rattle.std.proofs.Common.{refl, sym}
 use Rattle.lemmas.proofs.Exported.{int_eq-true}
 
--- stands for an undefined pixel: -2 ^ 63, which is below every value
-abbrev pub undefined_number : ℤ
-undefined_number = neg_ℤ (pos (2 ^ 63))
-
--- among short pixels: -2 ^ 31, which is below every value that one of these has
+-- stands for an undefined pixel among short ones: -2 ^ 31, which is below every value that one of these has
 abbrev pub undefined_short : ℤ
 undefined_short = neg_ℤ (pos (2 ^ 31))
 

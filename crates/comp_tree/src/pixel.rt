@@ -22,7 +22,8 @@ pub struct Pixel {
 
 impl Model for Pixel {
     ghost use Rattle.std.specs.Prelude.{Option, ℤ};
-    ghost use Rattle.comp_tree.specs.Numbers.{undefined_number, pixel_of, kept_number, kept_number-same};
+    ghost use Rattle.comp_tree.specs.Limits.{undefined_number};
+    ghost use Rattle.comp_tree.specs.Numbers.{pixel_of, kept_number, kept_number-same};
 
     ghost Value = { Option ℤ };
 

@@ -1,4 +1,5 @@
 mod Filling
+mod Later
 mod Skipping
 mod Writing
 mod Blocks

@@ -4,15 +4,16 @@ use Rattle.std.specs.Prelude.{filter, ℤ, ◌≤ℤ◌, ◌<ℤ◌}
 use Rattle.std.proofs.lemmas.Int.{ints}
 use Rattle.std.proofs.lemmas.List.{get_or-map}
 use Rattle.std.proofs.lemmas.List.FromFn.{get_or-map-range_with_len}
-use Rattle.lemmas.proofs.Exported.{IsAmong, among_from_filter, int_lt-true}
+use Rattle.lemmas.proofs.Exported.{IsAmong, int_lt-true}
 use Rattle.comp_tree.specs.declared.shape.Connect.{Connect}
 use Rattle.comp_tree.specs.Limits.{IsWithin, IsWithinRange, value_bound}
 use Rattle.comp_tree.specs.declared.tree.NodeRow.{NodeRow}
-use Rattle.comp_tree.specs.Raster.{Raster, IsPlane, HasValuesInRange, pixels, level}
+use Rattle.comp_tree.specs.Raster.{Raster, IsPlane, HasValuesInRange, level}
 use Rattle.comp_tree.specs.ComponentTree.{ComponentTree, parent_in}
-use Rattle.comp_tree.specs.Components.{nodes, is_in_node, tree_of}
+use Rattle.comp_tree.specs.Components.{nodes, tree_of}
 use Rattle.comp_tree.specs.Laws.{top_of}
-use Rattle.comp_tree.proofs.Exported.{below_from_defined, length-rows, parent-of_node, parent-candidate, in_node-defined, among_pixels, top_inside}
+use Rattle.comp_tree.proofs.Exported.{below_from_defined, in_node-defined, in_node_from_among, length-rows, parent-of_node, parent-candidate}
+use Rattle.comp_tree.proofs.Exported.{among_pixels, top_inside}
 use Rattle.node_sums.specs.declared.entry.Sums.{Sums}
 use Rattle.node_sums.specs.declared.outline.Outline.{Outline}
 use Rattle.node_sums.specs.Outlines.{outline_of, outlines_in, AreOutlinesOfTree}
@@ -25,10 +26,6 @@ use Rattle.node_sums.specs.Sizes.{IsUpTo, level_bound}
 use Rattle.filter_rules.specs.declared.rule.Criterion.{Criterion}
 use Rattle.filter_rules.specs.Criteria.{admits, satisfies}
 use Rattle.filter_rules.specs.Passes.{HasRisingLevels, HasBox}
-
-pixel_below : (r : Raster) (connect : Connect) (n p : ℕ) → IsAmong p (pixels_of r connect n) → p < length r.values
-unfolding pixels_of
-pixel_below r connect n p m = below_from_defined r p (in_node-defined r connect n p (among_from_filter (is_in_node r connect n) p (pixels r) m).1)
 
 pub length_grows : (f g : ℕ → Bool) (ps : List ℕ) → ((p : ℕ) → f p ≡ true → g p ≡ true) → length (filter f ps) ≤ length (filter g ps)
 length_grows f g [] h = omega arith
@@ -56,7 +53,7 @@ has_box r connect n plane hn = record {
     greatest_at_least (y_of r) (pixels_of r connect n)
         (top_of r connect n) there,
   );
-  few_rows = greatest_up_to (y_of r) 65535 (pixels_of r connect n) (λ p m. y_small r p plane (pixel_below r connect n p m));
+  few_rows = greatest_up_to (y_of r) 65535 (pixels_of r connect n) (λ p m. y_small r p plane (below_from_defined r p (in_node-defined r connect n p (in_node_from_among r connect n p m))));
 }
   where
     there : IsAmong (top_of r connect n) (pixels_of r connect n)

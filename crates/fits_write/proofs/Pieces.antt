@@ -132,9 +132,6 @@ pieces_over f xs i h = omega (arith, length-map xs f)
 pub from_nothing : (a b : Option (List ℕ)) (start xs v : List ℕ) → start ≡ [] → Waits a b (start ++ xs) v → Waits a b xs v
 from_nothing a b start xs v empty p = subst (λ l. Waits a b (l ++ xs) v) empty p
 
-pub cut_from_nothing : (a b : Option (List ℕ)) (start xs : List ℕ) → start ≡ [] → AppendsPrefix a b (start ++ xs) → AppendsPrefix a b xs
-cut_from_nothing a b start xs empty p = subst (λ l. AppendsPrefix a b (l ++ xs)) empty p
-
 -- ---- a header, and then data
 
 pub header_put : (a b : Option (List ℕ)) (cards expected : List (List ℕ)) → cards ≡ expected → Appends a b (header cards) → Appends a b (header expected)

@@ -9,6 +9,7 @@ use Rattle.std.proofs.lemmas.List.FromFn.{get_or-map-range_with_len, length-map-
 use Rattle.std.specs.declared.result.Result.{Result}
 use Rattle.dev_io.specs.Streams.{AppendsPrefix, PutAppends}
 use Rattle.dev_io.specs.Laws.{AppendsPrefix-more}
+use Rattle.dev_io.proofs.Exported.{front_empty}
 use Rattle.fits_card.specs.Written.{numbered_keyword, written_text}
 use Rattle.fits_write.specs.declared.table.Cell.{Cell}
 use Rattle.fits_write.specs.declared.table.Column.{Column}
@@ -16,7 +17,7 @@ use Rattle.fits_write.specs.Blocks.{room_after}
 use Rattle.fits_write.specs.Waiting.{Waits}
 use Rattle.fits_write.specs.Hdus.{header, table_cards, table_front, table_back}
 use Rattle.fits_write.specs.Columns.{column_cards, form_of, bytes_at, cell_bytes, cell_at, number_at}
-use Rattle.fits_write.proofs.Pieces.{Waits-after, Waits-cut, from_nothing, cut_from_nothing, cut_filled, waits_filled}
+use Rattle.fits_write.proofs.Pieces.{Waits-after, Waits-cut, from_nothing, cut_filled, waits_filled}
 
 column_cards-append : (n : ℕ) (xs ys : List Column) → column_cards n (xs ++ ys) ≡ column_cards n xs ++ column_cards (n + length xs) ys
 column_cards-append n [] ys = ap (λ k. column_cards k ys) (omega arith)
@@ -103,7 +104,7 @@ unfolding header table_cards
 front_cut a b start columns rows cards empty are p =
     let front = table_front columns rows in
     let middle = column_cards 1 columns in
-    let here : AppendsPrefix a b (concat front) = subst (λ l. AppendsPrefix a b (concat l)) are (cut_from_nothing a b start (concat cards) empty p) in
+    let here : AppendsPrefix a b (concat front) = subst (λ l. AppendsPrefix a b (concat l)) are (front_empty a b start (concat cards) empty p) in
     let more : AppendsPrefix a b ((concat front ++ concat middle) ++ concat table_back) =
     AppendsPrefix-more a b (concat front ++ concat middle) (concat table_back) (AppendsPrefix-more a b (concat front) (concat middle) here) in
     cut_filled a b (concat (front ++ middle ++ table_back)) 32 (subst (AppendsPrefix a b) (sym (all_cards front middle table_back)) more)

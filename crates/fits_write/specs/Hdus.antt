@@ -7,7 +7,7 @@ use Rattle.std.specs.Int.{w64, cast_unsigned}
 use Rattle.byteorder.specs.Endian.{big_bytes}
 use Rattle.comp_tree.specs.declared.shape.Shape.{Shape}
 use Rattle.comp_tree.specs.Raster.{Raster}
-use Rattle.comp_tree.specs.Numbers.{undefined_number}
+use Rattle.comp_tree.specs.Limits.{undefined_number}
 use Rattle.fits_card.specs.Pieces.{space}
 use Rattle.fits_card.specs.Written.{written_logical, written_integer, written_text, written_end}
 use Rattle.fits_write.specs.declared.table.Column.{Column}

@@ -1,5 +1,5 @@
--- Bookkeeping: what stands ready to be written.
-use Rattle.std.specs.Prelude.{◌≡◌, ℕ, ◌*◌, ◌^◌, ◌≤◌, List, length, ℤ}
+-- Model: what stands ready to be written.
+use Rattle.std.specs.Prelude.{◌≡◌, ℕ, ◌*◌, ◌≤◌, List, length, ℤ}
 use Rattle.std.specs.List.{All}
 use Rattle.comp_tree.specs.declared.shape.Shape.{Shape}
 use Rattle.fits_write.specs.Columns.{IsTable}

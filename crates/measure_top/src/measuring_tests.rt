@@ -2,7 +2,7 @@
 ghost use Rattle.std.specs.Prelude.{◌≡◌, IfOk, IfSome};
 ghost use Rattle.comp_tree.specs.Raster.{HasValuesInHalfRange};
 ghost use Rattle.orders.specs.Words.{HasLimits};
-ghost use Rattle.tree_products.specs.TrialSizes.{IsSmall};
+ghost use Rattle.tree_products.specs.SmallValues.{IsSmall};
 
 use crate::measuring::{measure_sources, put_measured};
 use comp_tree::{Connect, Plane, Shape};

@@ -6,7 +6,7 @@ use Rattle.std.proofs.lemmas.Bool.{cases_lt}
 use Rattle.std.proofs.lemmas.Option.{get_or_from_slice_get, slice_get_within}
 use Rattle.comp_tree.specs.Limits.{IsWithin}
 use Rattle.comp_tree.specs.Raster.{value_at, HasValuesWithin}
-use Rattle.comp_tree.proofs.Exported.{within_more}
+use Rattle.comp_tree.proofs.Exported.{some_within}
 
 pub within-abs : (v : ℤ) → IsWithin (unsigned_abs v) v
 within-abs (pos n) = record { low = omega (arith, ints); high = omega (arith, ints) }
@@ -20,16 +20,12 @@ abs-least (negsuc n) most h = let low : _ = h.low in omega (arith, ints)
 abbrev pub AreFirstWithin : ℕ → ℕ → List (Option ℤ) → Type 0
 AreFirstWithin count most values = (p : ℕ) → p < count → IfSome (value_at values p) (λ v. IsWithin most v)
 
-some-more : (a b : ℕ) (o : Option ℤ) → a ≤ b → IfSome o (λ v. IsWithin a v) → IfSome o (λ v. IsWithin b v)
-some-more a b None le h = tt
-some-more a b (Some v) le h = within_more a b v le h
-
 pub first-within-more : (count a b : ℕ) (values : List (Option ℤ)) → a ≤ b → AreFirstWithin count a values → IfSome (value_at values count) (λ v. IsWithin b v)
     → AreFirstWithin (count + 1) b values
 first-within-more count a b values le before here p lt = go (cases_lt p count)
   where
     go : (p < count) ⊎ (count ≤ p) → IfSome (value_at values p) (λ v. IsWithin b v)
-    go (inl below) = some-more a b (value_at values p) le (before p below)
+    go (inl below) = some_within a b (value_at values p) le (before p below)
     go (inr high) = let same : count ≡ p = omega (arith, high, lt) in subst (λ q. IfSome (value_at values q) (λ v. IsWithin b v)) same here
 
 pub all-within : (count most : ℕ) (values : List (Option ℤ)) → length values ≤ count → AreFirstWithin count most values → HasValuesWithin most values

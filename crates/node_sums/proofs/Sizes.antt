@@ -1,5 +1,5 @@
 -- How large sums over pixels of a plane are.
-use Rattle.std.proofs.Common.{◌≡◌, ℕ, ◌+◌, ◌*◌, ◌/◌, ◌^◌, ◌≤◌, ◌<◌, zero, suc, Bool, List, [], ◌∷◌, length, refl, sym, ap, subst, arith, inl, inr}
+use Rattle.std.proofs.Common.{◌≡◌, ℕ, ◌+◌, ◌*◌, ◌^◌, ◌≤◌, ◌<◌, zero, suc, Bool, List, [], ◌∷◌, length, refl, sym, ap, subst, arith, inl, inr}
 use Rattle.std.specs.Prelude.{ℤ, pos, negsuc, neg_ℤ, ◌+ℤ◌, ◌-ℤ◌, ◌*ℤ◌, ◌≤ℤ◌, filter, sum_by, Option}
 use Rattle.std.specs.Prelude.{Some, None, slice_get, slice_index_or, unwrap_or, unsigned_abs}
 use Rattle.std.proofs.lemmas.Int.{ints, unsigned_abs-mul}
@@ -7,10 +7,10 @@ use Rattle.std.proofs.lemmas.Nat.{mul-le, mod_below}
 use Rattle.std.proofs.lemmas.List.Sums.{sum_by-le, length-filter, count_by-le-length}
 use Rattle.std.specs.List.{range_with_len}
 use Rattle.std.proofs.lemmas.List.FromFn.{length-range_with_len}
-use Rattle.std.proofs.Math.Nat.{mul-le-mul_left, mul_comm, mul-suc, div-lt_iff_lt-mul}
+use Rattle.std.proofs.Math.Nat.{mul-le-mul_left, mul_comm, mul-suc}
 use Rattle.lemmas.proofs.Exported.{IsAmong, all_from_among, among_from_filter, among_from_range}
 use Rattle.comp_tree.specs.Limits.{IsWithin, IsWithinRange, value_bound}
-use Rattle.comp_tree.proofs.Exported.{bound_most, bound_of_sum, within_range}
+use Rattle.comp_tree.proofs.Exported.{bound_most, bound_of_sum, row_below, within_range}
 use Rattle.comp_tree.specs.Raster.{Raster, IsPlane, HasValuesInRange, level, value_at}
 use Rattle.node_sums.specs.Sums.{sums_over, x_of, y_of, total, least, greatest}
 use Rattle.node_sums.specs.Sizes.{IsUpTo, HasSizes, level_bound, moment_bound, total_bound}
@@ -75,14 +75,11 @@ level_up_to r p h = up_to_more (value_bound (length r.values)) level_bound (leve
 pub x_small : (r : Raster) (p : ℕ) → x_of r p ≤ 65535
 x_small r p = omega (arith, mod_below p r.shape.width r.shape.within_limits.some_columns, r.shape.within_limits.few_columns)
 
-row_below : (p w h : ℕ) (some : 0 < w) → p < w * h → p / w < h
-row_below p w h some l = (div-lt_iff_lt-mul {k = w} {x = p} {y = h} some).1 (subst (λ (n : ℕ). p < n) (mul_comm w h) l)
-
 pub y_small : (r : Raster) (p : ℕ) → IsPlane r → p < length r.values → y_of r p ≤ 65535
 y_small r p plane h =
     omega (
       arith,
-      row_below p r.shape.width r.shape.height r.shape.within_limits.some_columns (subst (λ (n : ℕ). p < n) plane h),
+      row_below r.shape.width r.shape.height p (subst (λ (n : ℕ). p < n) plane h),
       r.shape.within_limits.few_rows,
     )
 

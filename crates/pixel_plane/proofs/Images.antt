@@ -110,7 +110,7 @@ whole_image bytes hdu head shape plane true pixel whole none same = absurd (cc)
 whole_image bytes hdu head shape plane false (Some p) whole none same = absurd (cc)
 whole_image bytes hdu head shape plane false None whole none same = ap (λ p. image p head (head + image_bytes hdu shape)) (sym same)
 
-whole_stored : (hdu : Hdu) (shape : Shape) (bytes : List ℕ) → IsPlane (stored_plane hdu shape bytes)
+pub whole_stored : (hdu : Hdu) (shape : Shape) (bytes : List ℕ) → IsPlane (stored_plane hdu shape bytes)
 unfolding stored_plane
 whole_stored hdu shape bytes = length-map (range_with_len 0 (shape.width * shape.height)) _ ∙ length-range_with_len 0 _
 

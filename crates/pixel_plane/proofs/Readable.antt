@@ -6,7 +6,7 @@ use Rattle.std.specs.Result.{result_err}
 use Rattle.std.proofs.lemmas.Bool.{and_parts, or_cases, not-false}
 use Rattle.std.proofs.lemmas.Bool.Decides.{nat_tests}
 use Rattle.std.specs.Ordering.{int_eq}
-use Rattle.comp_tree.proofs.Exported.{int_eq-true, int_le-true, shape_by_sides}
+use Rattle.comp_tree.proofs.Exported.{int_eq-true, int_le-true, shape_if-true}
 use Rattle.comp_tree.specs.declared.shape.Shape.{Shape}
 use Rattle.fits_card.specs.declared.number.Whole.{Whole}
 use Rattle.fits_card.specs.declared.number.Whole.TheVariants.{Is, NotWhole, Beyond, Unreadable}
@@ -16,7 +16,6 @@ use Rattle.pixel_plane.specs.declared.fault.ImageFault.TheVariants.{NotImage, No
 use Rattle.fits_hdu.specs.Headers.{is_other}
 use Rattle.pixel_plane.specs.declared.limits.Limits.{Limits}
 use Rattle.comp_tree.specs.Limits.{IsWithinLimits}
-use Rattle.comp_tree.specs.Shapes.{shape_if}
 use Rattle.pixel_plane.specs.ImageLimits.{fits_plane, fits_within, plane_shape, plane_sides}
 use Rattle.pixel_plane.specs.Images.{checked, image_fault, first_fault, has_no_pixels, is_stored_size, is_one, is_zero_point, is_blank_or_none}
 use Rattle.pixel_plane.specs.Stored.{size_of, whole_or_zero}
@@ -104,18 +103,12 @@ fits_from width height limits =
     let few_pixels = limits.few_pixels in
     grind (arith, nat_tests)
 
-shape_if_within : (width height : ℕ) (within : Bool) (limits : within ≡ true → IsWithinLimits width height) (s : Shape) → within ≡ true → s.width ≡ width
-    → s.height ≡ height → shape_if width height within limits ≡ Some s
-shape_if_within width height true limits s h p q =
-    ap Some (sym (shape_by_sides s (record { width = width; height = height; within_limits = limits refl }) p q))
-shape_if_within width height false limits s h p q = absurd (cc)
-
 -- the shape of a shape's sides is that shape
 plane_shape_is : (width height : ℕ) (s : Shape) → s.width ≡ width → s.height ≡ height → plane_shape width height ≡ Some s
 unfolding plane_shape
 plane_shape_is width height s p q =
     let limits : IsWithinLimits width height = subst (λ x. IsWithinLimits x height) p (subst (λ y. IsWithinLimits s.width y) q s.within_limits) in
-    shape_if_within width height (fits_plane width height) (plane_sides width height) s (fits_from width height limits) p q
+    shape_if-true width height (fits_plane width height) (plane_sides width height) s (fits_from width height limits) p q
 
 -- an answer with the first fault or with the sides is the right one
 pub checked_from : (limits : Limits) (hdu : Hdu) (r : Result Shape ImageFault) → result_err r ≡ image_fault limits hdu

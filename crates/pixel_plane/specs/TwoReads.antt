@@ -1,4 +1,4 @@
--- Bookkeeping: what the reading of two HDUs does to the bytes that are told.
+-- Model: what the reading of two HDUs does to the bytes that are told.
 use Rattle.std.specs.Prelude.{◌≡◌, ℕ, List}
 use Rattle.std.specs.declared.option.Option.{Option}
 use Rattle.dev_io.specs.Streams.{Takes}

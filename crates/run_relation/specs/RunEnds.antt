@@ -1,5 +1,5 @@
--- Bookkeeping: what each end of a run says of its source and its sinks.
-use Rattle.std.specs.Prelude.{◌≡◌, ℕ, Bool, true, false, List, [], Result, Ok, Err, IsTrue}
+-- Model: what each end of a run says of its source and its sinks.
+use Rattle.std.specs.Prelude.{◌≡◌, ℕ, true, false, List, [], Result, Ok, Err, IsTrue}
 use Rattle.std.specs.declared.option.Option.{Option}
 use Rattle.std.specs.Io.KnownBytes.{Appends, Keeps}
 use Rattle.dev_io.specs.Causes.{Rose}
@@ -40,10 +40,6 @@ pub record CutsAnswer (answer : Answer) (i : InputUse) (o : OutputUse) : Type 0 
   pub done : answer.end ≡ Done
   pub front : AppendsPrefix o.written o.written' answer.output
   pub taken_is : Took i.left i.left' answer.taken
-
--- an input that nothing was asked of
-abbrev pub no_use : Option (List ℕ) → Bool → ℕ → InputUse
-no_use left ended faults = record { left = left; left' = left; ended = ended; ended' = ended; faults = faults; faults' = faults }
 
 -- what an end says of the bytes, by the answer and by the counts at which memory may be wanted
 abbrev pub EndsBy : Answer → List ℕ → InputUse → OutputUse → End → Type 0

@@ -27,3 +27,5 @@ pub use Rattle.source_pick.proofs.WindowsTiling.{tiles_give_the_catalogue}
 pub use Rattle.source_pick.proofs.CellsColumns.{catalogue_row_fits}
 -- the columns of 32 and of 64 bits, one before the other; a row that fits its columns fits those of the catalogue
 pub use Rattle.source_pick.proofs.CellsColumns.{narrow, wide, row_fits}
+-- rows whose columns are the same are the same
+pub use Rattle.source_pick.proofs.CellsColumns.{same_row}

@@ -7,9 +7,8 @@ use Rattle.comp_tree.specs.declared.shape.Shape.{Shape}
 use Rattle.comp_tree.specs.Raster.{Raster, IsPlane, value_at, at_least, is_at_least}
 use Rattle.comp_tree.specs.Grid.{are_neighbours, IsAdjacency}
 use Rattle.comp_tree.specs.Windows.{in_whole, seen_through, IsShown}
-use Rattle.comp_tree.proofs.Exported.{IsAt, in_whole-at, seen-length, seen-shape, seen-value, below_from_defined, adjacent_ends}
+use Rattle.comp_tree.proofs.Exported.{IsAt, at_neighbours, in_whole-at, seen-length, seen-shape, seen-value, below_from_defined, adjacent_ends}
 use Rattle.source_pick.specs.Sheets.{WindowPair, window_size, is_high_there, IsCopied, StandsIn, CopiesAreParts}
-use Rattle.source_pick.proofs.SheetsParts.{at_neighbours}
 
 module _ (r s : Raster) (connect : Connect) (h : ℤ) (c : WindowPair) (plane_s : IsPlane s) (copied : IsCopied r s connect h c) where
   abbrev m : Raster

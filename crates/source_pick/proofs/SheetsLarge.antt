@@ -10,10 +10,7 @@ use Rattle.comp_tree.specs.Raster.{Raster}
 use Rattle.comp_tree.specs.Components.{tree_of}
 use Rattle.comp_tree.specs.Laws.{parent_of_node}
 use Rattle.comp_tree.specs.Nesting.{pixels_of, node_numbers, is_root}
-use Rattle.comp_tree.specs.Components.{is_in_node}
-use Rattle.comp_tree.proofs.Exported.{in_node_from_among}
-use Rattle.lemmas.proofs.Exported.{rising-pixels}
-use Rattle.comp_tree.specs.Raster.{pixels}
+use Rattle.comp_tree.proofs.Exported.{in_node_from_among, rising_pixels_of}
 use Rattle.node_sums.specs.Sums.{sums_of}
 use Rattle.node_sums.specs.Flux.{flux_of}
 use Rattle.node_sums.proofs.Exported.{sums-area}
@@ -96,14 +93,10 @@ source_large r connect choice n h =
     go (inl e) = (entry_parts r connect choice n e).large
     go (inr e) = strong_large r connect choice n (sibling_strong r connect choice n e)
 
-rising_of : (x : Raster) (connect : Connect) (j : ℕ) → IsRising (pixels_of x connect j)
-unfolding pixels_of pixels
-rising_of x connect j = rising-pixels (is_in_node x connect j) (length x.values)
-
 pub sources_are_large : SourcesAreLarge
 sources_are_large r connect choice n ps plane hn h all =
     let a : choice.min_area ≤ (sums_of r connect n).area = source_large r connect choice n h in
     let e : (sums_of r connect n).area ≡ length (pixels_of r connect n) = sums-area r connect n in
-    let l : length (pixels_of r connect n) ≤ length ps = rising_few (pixels_of r connect n) ps (rising_of r connect n)
+    let l : length (pixels_of r connect n) ≤ length ps = rising_few (pixels_of r connect n) ps (rising_pixels_of r connect n)
     (λ p m. among_of p ps (all p (in_node_reached r connect choice.threshold n p (top_high r connect choice n plane hn h) (in_node_from_among r connect n p m)))) in
     omega (arith, a, e, l)

@@ -1,16 +1,16 @@
 -- A part that stands in a plane: its own pixels and their places are pairs along which both are alike, so their sources are the same but for the places.
-use Rattle.std.proofs.Common.{◌≡◌, ℕ, ◌+◌, ◌/◌, ◌%◌, ◌<◌, Bool, true, length, refl, sym, ◌∙◌, subst, arith}
+use Rattle.std.proofs.Common.{◌≡◌, ℕ, ◌<◌, Bool, true, length, refl, sym, ◌∙◌, subst}
 use Rattle.std.specs.Prelude.{IsTrue, ℤ, Option, is_some}
 use Rattle.lemmas.proofs.Exported.{same_bool}
 use Rattle.comp_tree.specs.declared.shape.Connect.{Connect}
 use Rattle.comp_tree.specs.declared.shape.Shape.{Shape}
 use Rattle.comp_tree.specs.Raster.{Raster, IsPlane, value_at, at_least, is_defined, is_at_least, level}
-use Rattle.comp_tree.specs.Grid.{distance, are_neighbours, IsAdjacency}
+use Rattle.comp_tree.specs.Grid.{are_neighbours, IsAdjacency}
 use Rattle.comp_tree.specs.Components.{node_of, is_in_node}
 use Rattle.comp_tree.specs.Laws.{IsNode, top_of}
 use Rattle.comp_tree.specs.Windows.{Window, in_whole, IsShown}
 use Rattle.comp_tree.proofs.Exported.{AlikeAlong, AreCounterparts, HasLikeBeside, HasPartnerBeside, IsReachedThere, IsAt, along_counterpart, along_sym}
-use Rattle.comp_tree.proofs.Exported.{counterparts_in_node, counterparts_sym, in_whole-at, in_whole-one, at_order, some_columns, turned}
+use Rattle.comp_tree.proofs.Exported.{at_neighbours, counterparts_in_node, counterparts_sym, in_whole-at, in_whole-one, at_order, some_columns, turned}
 use Rattle.comp_tree.proofs.Exported.{below_from_defined, defined_from_at_least, adjacent_ends, adjacent_from}
 use Rattle.node_sums.proofs.Exported.{y_small}
 use Rattle.source_pick.specs.declared.choice.Choice.{Choice}
@@ -20,17 +20,6 @@ use Rattle.source_pick.specs.Sheets.{StandsIn, IsHeld}
 use Rattle.source_pick.proofs.LocalityAlongSums.{along_first, reached_in_node}
 use Rattle.source_pick.proofs.LocalityAlongSources.{along_source_there}
 use Rattle.source_pick.proofs.WindowsMovedRows.{StandApart, along_row}
-
--- numbers that are moved together keep their distance, so pixels at one place have the same neighbours
-distance_moved : (a b c : ℕ) → distance (a + c) (b + c) ≡ distance a b
-unfolding distance
-distance_moved a b c = omega arith
-
-pub at_neighbours : (connect : Connect) (wide narrow left top p q a b : ℕ) → IsAt wide narrow left top p q → IsAt wide narrow left top a b
-    → are_neighbours connect wide p a ≡ are_neighbours connect narrow q b
-unfolding are_neighbours
-at_neighbours connect wide narrow left top p q a b u v =
-    rw (u.column, v.column, u.row, v.row, distance_moved (q % narrow) (b % narrow) left, distance_moved (q / narrow) (b / narrow) top) refl
 
 -- own pixel q of the part stands at p
 pub record ArePartPair (r : Raster) (w : Window) (own : ℕ → Bool) (p q : ℕ) : Type 0 where

@@ -1,9 +1,8 @@
 -- The values of a plane may stand on a smaller one.
-use Rattle.std.proofs.Common.{◌≡◌, ℕ, ◌^◌, ◌<◌, ◌≤◌, zero, suc, Bool, true, false, cond, List, [], ◌∷◌, refl, ap, arith, ◌⊎◌, inl, inr}
-use Rattle.std.specs.Prelude.{ℤ, Option, None, Some, IfSome, nat_le}
+use Rattle.std.proofs.Common.{◌≡◌, ℕ, ◌^◌, ◌<◌, ◌≤◌, Bool, true, false, cond, ap, arith, ◌⊎◌, inl, inr}
+use Rattle.std.specs.Prelude.{nat_le}
 use Rattle.std.proofs.lemmas.Bool.{cases_lt, false_from_ne_true, leb-true}
-use Rattle.comp_tree.specs.Limits.{IsWithin, value_bound}
-use Rattle.comp_tree.specs.Raster.{HasValuesWithin, value_at}
+use Rattle.comp_tree.specs.Limits.{value_bound}
 use Rattle.comp_tree.proofs.Exported.{bound_most, usual_bound}
 
 least_bound : (count : ℕ) → 2 ^ 30 ≤ value_bound count
@@ -27,10 +26,3 @@ bound_falls a b l = go (cases_lt (2 ^ 24) a)
     go : (2 ^ 24 < a) ⊎ (a ≤ 2 ^ 24) → value_bound b ≤ value_bound a
     go (inl k) = let e : value_bound b ≡ 2 ^ 30 = large_bound b (omega arith) in let m : 2 ^ 30 ≤ value_bound a = least_bound a in omega arith
     go (inr k) = let e : value_bound a ≡ 2 ^ 37 = usual_bound a k in let m : value_bound b ≤ 2 ^ 37 = bound_most b in omega arith
-
--- a bound of a plane's values is one of each
-pub value_within : (bound : ℕ) (values : List (Option ℤ)) (p : ℕ) → HasValuesWithin bound values → IfSome (value_at values p) (λ v. IsWithin bound v)
-value_within bound [] p h = tt
-value_within bound (None ∷ values) zero h = tt
-value_within bound (Some v ∷ values) zero h = h 0 v refl
-value_within bound (x ∷ values) (suc p) h = value_within bound values p (λ q v e. h (suc q) v e)

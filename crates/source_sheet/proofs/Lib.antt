@@ -12,3 +12,4 @@ mod Taking
 mod Putting
 mod Rows
 mod Showing
+pub mod Exported

@@ -119,7 +119,7 @@ pub record AreCellsBack (tree : ComponentTree) (sums : List Sums) (taken : List 
 pub no_cells : (tree : ComponentTree) (sums : List Sums) (taken : List Taken) (items : List ℤ) → items ≡ [] → AreCellsBack tree sums taken 0 items
 no_cells tree sums taken items empty = record { rows = []; made = empty; one_each = refl; fit = tt; exact = λ s connect is are h. refl }
 
-all_more : {X : Type 0} (P : X → Type 0) (xs : List X) (x : X) → AllByRecursion P xs → P x → AllByRecursion P (xs ++ x ∷ [])
+pub all_more : {X : Type 0} (P : X → Type 0) (xs : List X) (x : X) → AllByRecursion P xs → P x → AllByRecursion P (xs ++ x ∷ [])
 all_more P [] x before here = (here, tt)
 all_more P (y ∷ xs) x before here = (before.0, all_more P xs x before.1 here)
 
@@ -180,29 +180,6 @@ cells_table tree sums taken count items are few =
     (rows_are_table catalogue_columns cells_of are.rows catalogue_are_columns are.fit (omega (arith, are.one_each, few)))
 
 -- ---- a row as the code writes it
-
-pub same_row : (a b : CatRow) → a.number ≡ b.number → a.level ≡ b.level → a.base ≡ b.base → a.area ≡ b.area → a.flux ≡ b.flux → a.peak ≡ b.peak
-    → a.xmin ≡ b.xmin → a.xmax ≡ b.xmax → a.ymin ≡ b.ymin → a.ymax ≡ b.ymax → a.xfirst ≡ b.xfirst → a.yfirst ≡ b.yfirst → a.xcen ≡ b.xcen
-    → a.ycen ≡ b.ycen → a.xvar ≡ b.xvar → a.yvar ≡ b.yvar → a.xycov ≡ b.xycov → a ≡ b
-same_row a b number level base area flux peak xmin xmax ymin ymax xfirst yfirst xcen ycen xvar yvar xycov = λ i. record {
-  number = number i;
-  level = level i;
-  base = base i;
-  area = area i;
-  flux = flux i;
-  peak = peak i;
-  xmin = xmin i;
-  xmax = xmax i;
-  ymin = ymin i;
-  ymax = ymax i;
-  xfirst = xfirst i;
-  yfirst = yfirst i;
-  xcen = xcen i;
-  ycen = ycen i;
-  xvar = xvar i;
-  yvar = yvar i;
-  xycov = xycov i;
-}
 
 column_fits : (z : ℤ) → FitsColumn z → SFits w64 z
 column_fits z k =

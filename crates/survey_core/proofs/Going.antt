@@ -5,8 +5,8 @@ use Rattle.std.specs.Prelude.{Option, IsTrue, is_some}
 use Rattle.std.specs.List.{list_any}
 use Rattle.std.proofs.KnownBytes.{Appends-trans, Appends-nil}
 use Rattle.std.proofs.lemmas.List.{drop-drop}
-use Rattle.dev_io.specs.Causes.{Rose}
 use Rattle.dev_io.specs.Laws.{Takes-after}
+use Rattle.dev_io.proofs.Exported.{rose_since}
 use Rattle.survey_core.specs.declared.words.Command.{Command}
 use Rattle.survey_core.specs.declared.words.Command.TheVariants.{Add, Drop, List as Listing, Brightest}
 use Rattle.survey_core.specs.declared.fault.Stop.{Stop}
@@ -303,10 +303,6 @@ some_width (Add field) = omega arith
 some_width (Drop field) = omega arith
 some_width Listing = omega arith
 some_width (Brightest count) = omega arith
-
--- a count that rose later rose since before
-rose_since : (a b d : ℕ) → a ≤ b → Rose b d → Rose a d
-rose_since a b d h rose = omega (arith, h, rose)
 
 pub cause_since : (x : Command) (source source' source'' sink sink' sink'' keeper keeper' keeper'' : ℕ) (stop : Stop) → source ≤ source' → sink ≤ sink'
     → keeper ≤ keeper' → Cause x source' source'' sink' sink'' keeper' keeper'' stop

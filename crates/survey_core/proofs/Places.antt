@@ -10,6 +10,7 @@ use Rattle.std.proofs.lemmas.Bool.Decides.{nat_tests}
 use Rattle.std.proofs.lemmas.Cmp.{int_ranked}
 use Rattle.std.proofs.lemmas.Map.Keys.{IsDistinct-head, IsDistinct-tail}
 use Rattle.std.proofs.lemmas.Option.{get_or_from_slice_get}
+use Rattle.lemmas.proofs.Exported.{one_if}
 use Rattle.fits_write.specs.CatalogueColumns.{cells_in_row}
 use Rattle.survey_core.specs.declared.ranking.Row.{Row}
 use Rattle.survey_core.specs.Fields.{name_cmp}
@@ -78,10 +79,6 @@ apart_none [] = tt
 apart_none (r ∷ rows) = (tt, apart_none rows)
 
 -- ---- how many pass a test
-
-abbrev one_if : Bool → ℕ
-one_if true = 1
-one_if false = 0
 
 count_first : (test : Row → Bool) (r : Row) (xs : List Row) → length (filter test (r ∷ xs)) ≡ one_if (test r) + length (filter test xs)
 count_first test r xs = by (test r)

@@ -1,6 +1,6 @@
 -- What the words of `detect` answer to an input with an image.
 use Rattle.std.proofs.Common.{◌≡◌, ◌∙◌, ℕ, ◌+◌, ◌*◌, Bool, true, false, cond, List, ◌++◌, length, drop, sym, ap, subst, Option, Some, None}
-use Rattle.std.proofs.Common.{Result, Ok, Err, nat_lt, ◌<◌, ◌≤◌, ◌^◌, refl, arith, get_or}
+use Rattle.std.proofs.Common.{Result, Ok, Err, nat_lt, ◌<◌, ◌≤◌, refl, arith}
 use Rattle.std.specs.Prelude.{ℤ, pos, neg_ℤ, ◌≤ℤ◌, slice_get}
 use Rattle.std.specs.Int.{int_max, int_min}
 use Rattle.std.specs.List.{position, position_or_len}
@@ -11,10 +11,8 @@ use Rattle.std.proofs.lemmas.List.Sums.{fails_before_first}
 use Rattle.std.proofs.lemmas.Option.{slice_get_within, get_or_from_slice_get}
 use Rattle.lemmas.proofs.Exported.{int_le-true}
 use Rattle.comp_tree.specs.Limits.{IsWithin, half_bound}
+use Rattle.pixel_plane.proofs.Exported.{whole_stored}
 use Rattle.pixel_plane.specs.ImageLimits.{narrowed}
-use Rattle.std.specs.List.{range_with_len}
-use Rattle.std.proofs.lemmas.List.{length-map}
-use Rattle.std.proofs.lemmas.List.FromFn.{length-range_with_len}
 use Rattle.comp_tree.specs.declared.shape.Shape.{Shape}
 use Rattle.comp_tree.specs.Raster.{Raster, IsPlane, HasValuesInHalfRange, value_at}
 use Rattle.fits_hdu.specs.declared.answer.Hdu.{Hdu}
@@ -40,13 +38,6 @@ use Rattle.run_relation.specs.Headline.{Answer}
 use Rattle.tree_products.specs.Catalogues.{detected_hdus, catalogue_cells}
 use Rattle.survey_core.specs.Catalogues.{accepted, catalogue_in}
 use Rattle.survey_laws.specs.Laws.{IsRunsPlane, DetectionIsAccepted, AnswerIsAccepted, DoneIsOfAnImage}
-
--- ---- the image that is read is a plane
-
-stored_is_plane : (hdu : Hdu) (shape : Shape) (bytes : List ℕ) → IsPlane (stored_plane hdu shape bytes)
-unfolding stored_plane
-stored_is_plane hdu shape bytes =
-    length-map (range_with_len 0 (shape.width * shape.height)) _ ∙ length-range_with_len 0 (shape.width * shape.height)
 
 -- ---- its values are in half of the range, since none is out of the limits
 
@@ -82,7 +73,7 @@ stored_in_half limits hdu shape bytes none = record { each = each }
         let there : value_at values p ≡ Some v = get_or_from_slice_get values p (Some v) None is in
         let half : IsWithin (half_bound (shape.width * shape.height)) v =
         within_half limits (shape.width * shape.height) v (subst (λ o. is_out_of_range (value_limits limits shape) o ≡ false) there fine) in
-        subst (λ n. IsWithin (half_bound n) v) (sym (stored_is_plane hdu shape bytes)) half
+        subst (λ n. IsWithin (half_bound n) v) (sym (whole_stored hdu shape bytes)) half
 
 -- what is known of the plane of an image that is read
 record IsReadPlane (plane : Raster) : Type 0 where
@@ -94,7 +85,7 @@ plane_unless : (limits : Limits) (bytes : List ℕ) (hdu : Hdu) (head : ℕ) (sh
 plane_unless limits bytes hdu head shape None plane h e none is =
     let same : stored_plane hdu shape (drop head bytes) ≡ plane = cc in
     subst IsReadPlane same (record {
-      one_each = stored_is_plane hdu shape (drop head bytes);
+      one_each = whole_stored hdu shape (drop head bytes);
       half = stored_in_half limits hdu shape (drop head bytes) none;
     })
 plane_unless limits bytes hdu head shape (Some pixel) plane h e none is = absurd (cc)

@@ -11,3 +11,4 @@ mod Measured
 mod Backed
 mod Existing
 mod NodeBoxes
+pub mod Exported

@@ -1,16 +1,16 @@
 -- The measures of an image's sources in a second image, from its pieces.
 use Rattle.std.proofs.Common.{◌≡◌, ℕ, ◌*◌, ◌<◌, true, not, List, length, map, refl, sym, ◌∙◌, ap, subst, arith}
 use Rattle.std.specs.Prelude.{IsTrue, ℤ, pos, ◌↔◌, Contains, Option, is_some, unwrap_or}
-use Rattle.lemmas.proofs.Exported.{ArePaired, HasPartnerIn, IsAmong, IsRising, paired_filter, paired_from_rising, paired_map, rising-pixels}
+use Rattle.lemmas.proofs.Exported.{ArePaired, HasPartnerIn, IsAmong, paired_filter, paired_from_rising, paired_map}
 use Rattle.comp_tree.specs.declared.shape.Connect.{Connect}
 use Rattle.comp_tree.specs.declared.shape.Shape.{Shape}
-use Rattle.comp_tree.specs.Raster.{Raster, IsPlane, pixels, value_at, is_defined, level}
+use Rattle.comp_tree.specs.Raster.{Raster, IsPlane, value_at, is_defined, level}
 use Rattle.comp_tree.specs.Components.{IsReached, is_in_node}
 use Rattle.comp_tree.specs.Nesting.{pixels_of}
 use Rattle.comp_tree.specs.Windows.{Window, IsInside, in_whole, is_in_box, IsShown, Shows, seen_through, SureComponentsAreTheSame}
 use Rattle.comp_tree.proofs.Exported.{IsAt, among_pixels, at_order, below_from_defined}
 use Rattle.comp_tree.proofs.Exported.{in_node-defined, in_node_from_among, in_whole-at, in_whole-one}
-use Rattle.comp_tree.proofs.Exported.{some_columns}
+use Rattle.comp_tree.proofs.Exported.{rising_pixels_of, some_columns}
 use Rattle.mesh_background.specs.Residuals.{residual_of}
 use Rattle.node_sums.specs.Sums.{total, sums_of}
 use Rattle.source_pick.specs.declared.choice.Choice.{Choice}
@@ -74,10 +74,6 @@ module _ (v u : Raster) (R : ℕ → ℕ → Type 0) (same : (p q : ℕ) → R p
       values = paired_map R (level v) (level u) (seen_of v ps) (seen_of u qs) same_level seen
 
 -- ---- the pixels of a source, in the image and in the piece
-
-rising_pixels_of : (x : Raster) (connect : Connect) (n : ℕ) → IsRising (pixels_of x connect n)
-unfolding pixels_of pixels
-rising_pixels_of x connect n = rising-pixels (is_in_node x connect n) (length x.values)
 
 -- pixel p of the image is pixel q of the window, and both are of the source
 pub record AreOfSource (r s : Raster) (connect : Connect) (w : Window) (n m p q : ℕ) : Type 0 where

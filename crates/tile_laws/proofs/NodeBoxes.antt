@@ -1,29 +1,33 @@
 -- What the boxes of a window's nodes tell of the components of its core.
-use Rattle.std.proofs.Common.{◌≡◌, ℕ, ◌+◌, ◌-◌, ◌*◌, ◌/◌, ◌%◌, ◌^◌, ◌<◌, ◌≤◌, ◌↔◌, List, [], ◌∷◌, length, Some, refl, sym, ◌∙◌, ap, subst, arith, ◌⊎◌, inl, inr, get_or}
-use Rattle.std.specs.Prelude.{IsTrue, true, ℤ, ◌≤ℤ◌, slice_get}
+use Rattle.std.proofs.Common.{◌≡◌, ℕ, ◌+◌, ◌-◌, ◌/◌, ◌%◌, ◌^◌, ◌<◌, ◌≤◌, ◌↔◌, List, [], ◌∷◌, ◌++◌, length, Some, refl, sym, ◌∙◌, ap, subst, arith, ◌⊎◌, inl, inr, get_or}
+use Rattle.std.specs.Prelude.{IsTrue, true, ℤ, ◌≤ℤ◌, ◌<ℤ◌, int_le, int_lt, slice_get}
+use Rattle.std.specs.List.{All}
+use Rattle.std.proofs.lemmas.List.Elements.{All-push}
 use Rattle.std.proofs.lemmas.Nat.{mod_below}
-use Rattle.std.proofs.lemmas.List.{get_or-map}
 use Rattle.std.proofs.lemmas.List.FromFn.{get_or-map-range_with_len}
 use Rattle.std.proofs.lemmas.Option.{get_or_from_slice_get, slice_get-get_or}
 use Rattle.std.proofs.lemmas.Bool.{cases_lt}
-use Rattle.std.proofs.Math.Nat.{mul_comm, div-lt_iff_lt-mul}
-use Rattle.lemmas.proofs.Exported.{IsAmong, among_from_filter, int_le-true}
+use Rattle.lemmas.proofs.Exported.{IsAmong, cases_int, int_le-true, int_lt-true, int_lt_le}
 use Rattle.comp_tree.specs.declared.shape.Connect.{Connect}
 use Rattle.comp_tree.specs.declared.shape.Shape.{Shape}
 use Rattle.comp_tree.specs.declared.tree.NodeRow.{NodeRow}
-use Rattle.comp_tree.specs.Raster.{Raster, IsPlane, pixels, is_at_least, level}
-use Rattle.comp_tree.specs.ComponentTree.{ComponentTree}
-use Rattle.comp_tree.specs.Components.{IsReached, nodes, is_in_node, row_of, tree_of}
+use Rattle.comp_tree.specs.Raster.{Raster, IsPlane, is_at_least, is_defined, level}
+use Rattle.comp_tree.specs.ComponentTree.{ComponentTree, no_node, parent_in}
+use Rattle.comp_tree.specs.Components.{IsReached, nodes, node_of, is_in_node, parent_of, reaches, representative, tree_of}
 use Rattle.comp_tree.specs.Laws.{top_of, IsNode, IsIn}
-use Rattle.comp_tree.specs.Nesting.{pixels_of}
+use Rattle.comp_tree.specs.Nesting.{pixels_of, level_in}
 use Rattle.comp_tree.specs.Windows.{Window, Box, IsInside, in_whole, is_in_box, IsDeepIn}
-use Rattle.comp_tree.proofs.Exported.{IsAt, among_pixels, below_from_defined, each_component_is_a_node, in_node-defined, in_whole-at, length-rows}
-use Rattle.comp_tree.proofs.Exported.{level_from_at_least, reaches_end, reaches_here, reaches-is_IsReached, rows-are, shape-of, top_inside}
+use Rattle.comp_tree.proofs.Exported.{IsAt, among_pixels, below_from_defined, each_component_is_a_node, in_node-defined, in_node_from_among, in_whole-at}
+use Rattle.comp_tree.proofs.Exported.{length-rows, row_below}
+use Rattle.comp_tree.proofs.Exported.{IsCandidate, IsPlace, ParentCase, candidate-parts, child, defined_from_at_least, level_from_at_least, node_of-is}
+use Rattle.comp_tree.proofs.Exported.{parent-case, parent-of_node, reaches_end, reaches_here, reaches_lower, reaches_start, reaches_sym, reaches_trans}
+use Rattle.comp_tree.proofs.Exported.{reaches-is_IsReached, representative-is, root, shape-of, top_inside}
 use Rattle.node_sums.specs.declared.entry.Sums.{Sums}
 use Rattle.node_sums.specs.Sums.{sums_of, sums_in, sums_over, x_of, y_of, least, AreTheTrees}
-use Rattle.node_sums.proofs.Exported.{least_at_most, greatest_at_least, greatest_up_to, length-sums_in, trees_rows}
-use Rattle.tile_laws.specs.Boxed.{HasBoxIn}
-use Rattle.tile_laws.specs.Knowing.{node_box, AreSettled, BoxesTellTheCore, DoMeet, IsUnsettled, IsSettled, KnownCoresAreAnswered}
+use Rattle.node_sums.proofs.Exported.{level-of_node, least_at_most, greatest_at_least, greatest_up_to, length-sums_in, trees_rows}
+use Rattle.tile_laws.specs.Knowing.{HasBoxIn, node_box, AreSettled, BoxesTellTheCore, DoMeet, IsUnsettled, IsSettled, IsWholeAt, KnownCoresAreAnswered}
+use Rattle.tile_laws.specs.declared.extents.Extent.{Extent}
+use Rattle.tile_laws.specs.Extents.{extent_box}
 use Rattle.tile_laws.proofs.Sure.{IsPlacedIn, placed_in, in_from_placed}
 
 -- ---- the box of a node
@@ -34,13 +38,6 @@ least_from f k (q ∷ ps) few h =
     let a : k ≤ f q = h q (inl refl) in
     let b : k ≤ least f ps = least_from f k ps few (λ p m. h p (inr m)) in
     omega arith
-
-pixel_below : (r : Raster) (connect : Connect) (n p : ℕ) → IsAmong p (pixels_of r connect n) → p < length r.values
-unfolding pixels_of
-pixel_below r connect n p m = below_from_defined r p (in_node-defined r connect n p (among_from_filter (is_in_node r connect n) p (pixels r) m).1)
-
-row_below : (p w h : ℕ) (some : 0 < w) → p < w * h → p / w < h
-row_below p w h some l = (div-lt_iff_lt-mul {k = w} {x = p} {y = h} some).1 (subst (λ (n : ℕ). p < n) (mul_comm w h) l)
 
 -- where a pixel of a node stands
 record IsInBox (r : Raster) (s : Sums) (p : ℕ) : Type 0 where
@@ -81,8 +78,8 @@ box_in r connect n plane hn = record {
   bottom = greatest_up_to (y_of r) r.shape.height (pixels_of r connect n)
       (λ p m. omega (
         arith,
-        row_below p r.shape.width r.shape.height r.shape.within_limits.some_columns
-            (subst (λ (k : ℕ). p < k) plane (pixel_below r connect n p m)),
+        row_below r.shape.width r.shape.height p
+            (subst (λ (k : ℕ). p < k) plane (below_from_defined r p (in_node-defined r connect n p (in_node_from_among r connect n p m)))),
       ));
 }
   where
@@ -114,21 +111,10 @@ boxed tree sums n d t h =
 
 -- ---- the components of the core
 
-row_at : (s : Raster) (connect : Connect) (n : ℕ) → n < length (nodes s connect)
-    → slice_get (tree_of s connect).rows n ≡ Some (row_of s connect (top_of s connect n))
-row_at s connect n h =
-    slice_get-get_or (tree_of s connect).rows n (row_of s connect (top_of s connect n)) (omega (arith, h, length-rows s connect))
-    ∙ ap Some (ap (λ (xs : List NodeRow). get_or xs n (row_of s connect (top_of s connect n))) (rows-are s connect)
-    ∙ get_or-map (row_of s connect) (nodes s connect) n 0 (row_of s connect (top_of s connect n)) h)
-
 entry_at : (s : Raster) (connect : Connect) (n : ℕ) → n < length (nodes s connect) → slice_get (sums_in s connect) n ≡ Some (sums_of s connect n)
 entry_at s connect n h =
     slice_get-get_or (sums_in s connect) n (sums_of s connect n) (omega (arith, h, length-sums_in s connect))
     ∙ ap Some (entry_read s connect n (sums_of s connect n) h)
-
-row_high : (s : Raster) (connect : Connect) (h : ℤ) (p : ℕ) → IsTrue (is_at_least s h p) → h ≤ℤ (row_of s connect p).level
-unfolding row_of
-row_high s connect h p k = int_le-true h (level s p) (level_from_at_least s h p k)
 
 module _ (s : Raster) (whole : Shape) (w : Window) (core : Box) (e : Sums) (shape : s.shape ≡ w.shape) (inside : IsInside whole w) where
   wide : s.shape.width ≡ w.shape.width
@@ -171,24 +157,75 @@ module _ (s : Raster) (whole : Shape) (w : Window) (core : Box) (e : Sums) (shap
       at : IsAt whole.width w.shape.width w.left w.top (in_whole whole.width w q) q
       at = in_whole-at whole w q inside
 
+-- what a pixel reaches at a level is a whole component at it
+module _ (s : Raster) (connect : Connect) (h : ℤ) (q n : ℕ) (high : IsTrue (is_at_least s h q)) (node : IsNode s connect n)
+    (same : (x : ℕ) → IsReached s connect h q x ↔ IsIn s connect n x) where
+  abbrev top : ℕ
+  top = top_of s connect n
+
+  to_top : IsTrue (reaches s connect h q top)
+  to_top = (reaches-is_IsReached s connect h q top).1 ((same top).1 (top_inside s connect n node))
+
+  top_high : IsTrue (is_at_least s h top)
+  top_high = reaches_end s connect h q top to_top
+
+  level_high : h ≤ℤ level_in (tree_of s connect).rows n
+  level_high =
+      subst (λ (z : ℤ). h ≤ℤ z) (sym (level-of_node s connect n node))
+      (int_le-true h (level s top) (level_from_at_least s h top top_high))
+
+  -- a pixel of a lower level that reaches the node doesn't have the level
+  below_level : (m : ℕ) → IsCandidate s connect top m → level s m <ℤ h
+  unfolding is_in_node
+  below_level m c = go (cases_int (level s m) h)
+    where
+      go : (int_lt (level s m) h ≡ true) ⊎ (int_le h (level s m) ≡ true) → level s m <ℤ h
+      go (inl l) = int_lt-true (level s m) h l
+      go (inr g) = absurd (int_lt_le (level s m) (level s top) c.lower up)
+        where
+          back : IsTrue (reaches s connect h top m)
+          back = reaches_sym s connect h m top (reaches_lower s connect h (level s m) m top g c.reaches_it)
+
+          inside : is_in_node s connect n m ≡ true
+          inside = (same m).0 ((reaches-is_IsReached s connect h q m).0 (reaches_trans s connect h q top m to_top back))
+
+          up : int_le (level s top) (level s m) ≡ true
+          up = level_from_at_least s (level s top) m (reaches_end s connect (level s top) top m inside)
+
+  whole_at : IsWholeAt h (tree_of s connect).rows n
+  whole_at = record { high = level_high; lowest = go (parent_of s connect top) (parent-of_node s connect n node) (parent-case s connect top) }
+    where
+      go : (m : ℕ) → parent_in (tree_of s connect).rows n ≡ m → ParentCase s connect top m
+          → (parent_in (tree_of s connect).rows n ≡ no_node) ⊎ (level_in (tree_of s connect).rows (parent_in (tree_of s connect).rows n) <ℤ h)
+      go _ is (root none) = inl is
+      go _ is (child m candidate most) = inr (subst (λ (z : ℤ). z <ℤ h) (sym level_is) (below_level m parts))
+        where
+          parts : IsCandidate s connect top m
+          parts = candidate-parts s connect top m candidate
+
+          defined : IsTrue (is_defined s m)
+          defined = defined_from_at_least s (level s m) m (reaches_start s connect (level s m) m top parts.reaches_it)
+
+          place : IsPlace (nodes s connect) (representative s connect m) (node_of s connect m)
+          place = node_of-is s connect m defined
+
+          level_is : level_in (tree_of s connect).rows (parent_in (tree_of s connect).rows n) ≡ level s m
+          level_is =
+              ap (level_in (tree_of s connect).rows) is ∙ level-of_node s connect (node_of s connect m) place.below ∙ ap (level s) place.it_is
+              ∙ (representative-is s connect m defined).same_level
+
 pub boxes_tell_the_core : BoxesTellTheCore
 boxes_tell_the_core s connect h whole w core sure plane shape inside settled q b in_core high path = go (each_component_is_a_node s connect h q high)
   where
     go : (n : ℕ) × IsNode s connect n × ((x : ℕ) → IsReached s connect h q x ↔ IsIn s connect n x) → IsDeepIn whole sure (in_whole whole.width w b)
     go (n, node, same) =
-        settled n (row_of s connect (top_of s connect n)) (sums_of s connect n) (omega (arith, node, length-rows s connect)) (row_at s connect n node)
-        (entry_at s connect n node)
-        (row_high s connect h (top_of s connect n) top_high)
+        settled n (sums_of s connect n) (omega (arith, node, length-rows s connect)) (entry_at s connect n node) (whole_at s connect h q n high node same)
         (meets s whole w core (sums_of s connect n) shape inside q (in_box s connect n q ((same q).0 itself)) in_core)
         (in_whole whole.width w b)
         (there s whole w core (sums_of s connect n) shape inside b (in_box s connect n b ((same b).0 path)))
       where
         itself : IsReached s connect h q q
         itself = (reaches-is_IsReached s connect h q q).0 (reaches_here s connect h q high)
-
-        top_high : IsTrue (is_at_least s h (top_of s connect n))
-        top_high = reaches_end s connect h q (top_of s connect n)
-            ((reaches-is_IsReached s connect h q (top_of s connect n)).1 ((same (top_of s connect n)).1 (top_inside s connect n node)))
 
 pub known_cores_are_answered : KnownCoresAreAnswered
 known_cores_are_answered d r t core box inside on_mesh core_in core_sure box_sure known = record {
@@ -200,37 +237,76 @@ known_cores_are_answered d r t core box inside on_mesh core_in core_sure box_sur
 
 -- ---- the loop over the nodes
 
-module _ (threshold : ℤ) (rows read : List NodeRow) (sums : List Sums) (left top : ℕ) (whole : Shape) (core sure : Box) (n : ℕ) (d : NodeRow) (e : Sums)
-    (same : read ≡ rows) where
-  pub open_from : n < length rows → n < length sums → threshold ≤ℤ (get_or read n d).level
-      → ((threshold ≤ℤ (get_or read n d).level → IsSettled whole core sure (node_box left top (get_or sums n e))) → ⊥)
-      → IsUnsettled threshold rows sums left top whole core sure n
-  open_from node inside high unknown = record {
-    row = get_or read n d;
-    entry = get_or sums n e;
-    row_at = slice_get-get_or rows n d node ∙ ap Some (ap (λ (xs : List NodeRow). get_or xs n d) (sym same));
-    entry_at = slice_get-get_or sums n e inside;
-    high = high;
-    unsettled = λ s. unknown (λ k. s);
-  }
-
+module _ (threshold : ℤ) (rows : List NodeRow) (sums : List Sums) (left top : ℕ) (whole : Shape) (core sure : Box) (n : ℕ) (e : Sums) where
+  -- one node more that is settled
   pub settled_more : AreSettled threshold rows sums left top whole core sure n
-      → (threshold ≤ℤ (get_or read n d).level → IsSettled whole core sure (node_box left top (get_or sums n e)))
+      → (IsWholeAt threshold rows n → IsSettled whole core sure (node_box left top (get_or sums n e)))
       → AreSettled threshold rows sums left top whole core sure (n + 1)
-  settled_more before known m row entry below row_is entry_is high = go (cases_lt m n)
+  settled_more before known m entry below entry_is is_whole = go (cases_lt m n)
     where
       go : (m < n) ⊎ (n ≤ m) → IsSettled whole core sure (node_box left top entry)
-      go (inl l) = before m row entry l row_is entry_is high
+      go (inl l) = before m entry l entry_is is_whole
       go (inr g) =
           let m_is : m ≡ n = omega (arith, g, below) in
-          let row_same : get_or read n d ≡ row =
-          ap (λ (xs : List NodeRow). get_or xs n d) same
-          ∙ get_or_from_slice_get rows n row d (subst (λ (k : ℕ). slice_get rows k ≡ Some row) m_is row_is) in
           let entry_same : get_or sums n e ≡ entry =
           get_or_from_slice_get sums n entry e (subst (λ (k : ℕ). slice_get sums k ≡ Some entry) m_is entry_is) in
           subst (λ (x : Sums). IsSettled whole core sure (node_box left top x)) entry_same
-          (known (subst (λ (x : NodeRow). threshold ≤ℤ x.level) (sym row_same) high))
+          (known (subst (λ (k : ℕ). IsWholeAt threshold rows k) m_is is_whole))
+
+  -- and one that isn't
+  pub unsettled_at : n < length sums → IsWholeAt threshold rows n → (box : Box) → box ≡ node_box left top (get_or sums n e)
+      → (IsSettled whole core sure box → ⊥) → IsUnsettled threshold rows sums left top whole core sure box
+  unsettled_at inside is_whole box same unsettled = record {
+    node = n;
+    entry = get_or sums n e;
+    entry_at = slice_get-get_or sums n e inside;
+    is_whole = is_whole;
+    box_is = same;
+    unsettled = unsettled;
+  }
 
 pub settled_up_to : (threshold : ℤ) (rows : List NodeRow) (sums : List Sums) (left top : ℕ) (whole : Shape) (core sure : Box) (count n : ℕ) → count ≤ n
     → AreSettled threshold rows sums left top whole core sure n → AreSettled threshold rows sums left top whole core sure count
-settled_up_to threshold rows sums left top whole core sure count n few settled m row entry below = settled m row entry (omega (arith, few, below))
+settled_up_to threshold rows sums left top whole core sure count n few settled m entry below = settled m entry (omega (arith, few, below))
+
+-- the boxes that were found among the first n nodes
+abbrev pub AreOpenBoxes : ℤ → List NodeRow → List Sums → ℕ → ℕ → Shape → Box → Box → ℕ → List Extent → Type 0
+AreOpenBoxes threshold rows sums left top whole core sure n boxes =
+    (boxes ≡ [] → AreSettled threshold rows sums left top whole core sure n)
+    × All (λ found. IsUnsettled threshold rows sums left top whole core sure (extent_box found)) boxes
+
+module _ (threshold : ℤ) (rows : List NodeRow) (sums : List Sums) (left top : ℕ) (whole : Shape) (core sure : Box) (n : ℕ) (e : Sums) (boxes now : List Extent)
+    (before : AreOpenBoxes threshold rows sums left top whole core sure n boxes) where
+  pub none_opened : now ≡ boxes → (IsWholeAt threshold rows n → IsSettled whole core sure (node_box left top (get_or sums n e)))
+      → AreOpenBoxes threshold rows sums left top whole core sure (n + 1) now
+  none_opened same known =
+      subst (λ (xs : List Extent). AreOpenBoxes threshold rows sums left top whole core sure (n + 1) xs) (sym same)
+      (λ none. settled_more threshold rows sums left top whole core sure n e (before.0 none) known, before.1)
+
+  pub one_opened : (part : Extent) → now ≡ boxes ++ part ∷ [] → n < length sums → IsWholeAt threshold rows n
+      → extent_box part ≡ node_box left top (get_or sums n e) → (IsSettled whole core sure (extent_box part) → ⊥)
+      → AreOpenBoxes threshold rows sums left top whole core sure (n + 1) now
+  one_opened part same inside is_whole box unsettled =
+      subst (λ (xs : List Extent). AreOpenBoxes threshold rows sums left top whole core sure (n + 1) xs) (sym same) (
+        λ none. absurd (not_none boxes none),
+        All-push (λ found. IsUnsettled threshold rows sums left top whole core sure (extent_box found)) boxes part before.1
+            (unsettled_at threshold rows sums left top whole core sure n e inside is_whole (extent_box part) box unsettled),
+      )
+    where
+      not_none : (xs : List Extent) → xs ++ part ∷ [] ≡ [] → ⊥
+      not_none [] e = cc
+      not_none (x ∷ xs) e = cc
+
+-- a node that is no whole component opens none
+pub passed_over : (threshold : ℤ) (rows : List NodeRow) (sums : List Sums) (left top : ℕ) (whole : Shape) (core sure : Box) (n : ℕ) (boxes now : List Extent)
+    → AreOpenBoxes threshold rows sums left top whole core sure n boxes → now ≡ boxes → (IsWholeAt threshold rows n → ⊥)
+    → AreOpenBoxes threshold rows sums left top whole core sure (n + 1) now
+passed_over threshold rows sums left top whole core sure n boxes now before same other =
+    subst (λ (xs : List Extent). AreOpenBoxes threshold rows sums left top whole core sure (n + 1) xs) (sym same)
+    (λ none m entry below entry_is is_whole. settled m entry (cases_lt m n) none below entry_is is_whole, before.1)
+  where
+    settled : (m : ℕ) (entry : Sums) → (m < n) ⊎ (n ≤ m) → boxes ≡ [] → m < n + 1 → slice_get sums m ≡ Some entry → IsWholeAt threshold rows m
+        → IsSettled whole core sure (node_box left top entry)
+    settled m entry (inl l) none below entry_is is_whole = before.0 none m entry l entry_is is_whole
+    settled m entry (inr g) none below entry_is is_whole =
+        absurd (other (subst (λ (k : ℕ). IsWholeAt threshold rows k) (omega (arith, g, below)) is_whole))

@@ -1,9 +1,11 @@
 -- Model: what the boxes of a window's nodes tell: whether the window knows the components that have a pixel in its core.
-use Rattle.std.specs.Prelude.{◌≡◌, ℕ, ◌+◌, ◌-◌, ◌<◌, IsTrue, ℤ, ◌≤ℤ◌, List, length, Some, slice_get}
+use Rattle.std.specs.Prelude.{◌≡◌, ℕ, ◌+◌, ◌-◌, ◌<◌, ◌≤◌, ◌⊎◌, IsTrue, ℤ, ◌≤ℤ◌, ◌<ℤ◌, List, length, Some, slice_get}
 use Rattle.comp_tree.specs.declared.shape.Connect.{Connect}
 use Rattle.comp_tree.specs.declared.shape.Shape.{Shape}
 use Rattle.comp_tree.specs.declared.tree.NodeRow.{NodeRow}
 use Rattle.comp_tree.specs.Raster.{Raster, IsPlane, is_at_least}
+use Rattle.comp_tree.specs.ComponentTree.{no_node, parent_in}
+use Rattle.comp_tree.specs.Nesting.{level_in}
 use Rattle.comp_tree.specs.Components.{IsReached, tree_of}
 use Rattle.comp_tree.specs.Windows.{Window, Box, IsInside, in_whole, is_in_box, seen_through, IsDeepIn}
 use Rattle.mesh_background.specs.Windows.{IsOnMesh}
@@ -11,6 +13,15 @@ use Rattle.node_sums.specs.declared.entry.Sums.{Sums}
 use Rattle.node_sums.specs.Sums.{sums_in}
 use Rattle.tile_laws.specs.Clear.{IsSureBox}
 use Rattle.tile_laws.specs.Pieces.{DetectionChoice, Piece, searched, LiesInSureBox, AnswersForCore}
+
+-- the sums are over some pixels of a plane of this shape: their box isn't empty, and lies in it
+pub record HasBoxIn (shape : Shape) (s : Sums) : Type 0 where
+  pub left : 0 < s.xmin
+  pub columns : s.xmin ≤ s.xmax
+  pub right : s.xmax ≤ shape.width
+  pub top : 0 < s.ymin
+  pub rows : s.ymin ≤ s.ymax
+  pub bottom : s.ymax ≤ shape.height
 
 -- the box of a node in the image, where the window's first pixel stands in this column and row: sums count from 1
 abbrev pub node_box : ℕ → ℕ → Sums → Box
@@ -36,19 +47,24 @@ IsBoxDeep whole sure box = (p : ℕ) → IsTrue (is_in_box whole.width box p) �
 abbrev pub IsSettled : Shape → Box → Box → Box → Type 0
 IsSettled whole core sure box = DoMeet core box → IsBoxDeep whole sure box
 
--- of the first nodes those of at least the threshold have such boxes
-abbrev pub AreSettled : ℤ → List NodeRow → List Sums → ℕ → ℕ → Shape → Box → Box → ℕ → Type 0
-AreSettled threshold rows sums left top whole core sure count = (n : ℕ) (row : NodeRow) (entry : Sums) → n < count → slice_get rows n ≡ Some row
-    → slice_get sums n ≡ Some entry → threshold ≤ℤ row.level → IsSettled whole core sure (node_box left top entry)
+-- a node has at least the threshold, and its parent, if any, hasn't: its component is a whole one of the threshold set
+pub record IsWholeAt (threshold : ℤ) (rows : List NodeRow) (n : ℕ) : Type 0 where
+  pub high : threshold ≤ℤ level_in rows n
+  pub lowest : (parent_in rows n ≡ no_node) ⊎ (level_in rows (parent_in rows n) <ℤ threshold)
 
--- a node has at least the threshold, and its box doesn't
-pub record IsUnsettled (threshold : ℤ) (rows : List NodeRow) (sums : List Sums) (left top : ℕ) (whole : Shape) (core sure : Box) (n : ℕ) : Type 0 where
-  pub row : NodeRow
+-- of the first nodes those that are whole components at the threshold have such boxes
+abbrev pub AreSettled : ℤ → List NodeRow → List Sums → ℕ → ℕ → Shape → Box → Box → ℕ → Type 0
+AreSettled threshold rows sums left top whole core sure count = (n : ℕ) (entry : Sums) → n < count → slice_get sums n ≡ Some entry
+    → IsWholeAt threshold rows n → IsSettled whole core sure (node_box left top entry)
+
+-- node n is one, and its box isn't so
+pub record IsUnsettled (threshold : ℤ) (rows : List NodeRow) (sums : List Sums) (left top : ℕ) (whole : Shape) (core sure box : Box) : Type 0 where
+  pub node : ℕ
   pub entry : Sums
-  pub row_at : slice_get rows n ≡ Some row
-  pub entry_at : slice_get sums n ≡ Some entry
-  pub high : threshold ≤ℤ row.level
-  pub unsettled : IsSettled whole core sure (node_box left top entry) → ⊥
+  pub entry_at : slice_get sums node ≡ Some entry
+  pub is_whole : IsWholeAt threshold rows node
+  pub box_is : box ≡ node_box left top entry
+  pub unsettled : IsSettled whole core sure box → ⊥
 
 -- the window's plane knows its core: each component at the threshold that has a pixel there lies deep in the sure box
 abbrev pub KnowsItsCore : Raster → Connect → ℤ → Shape → Window → Box → Box → Type 0
@@ -57,7 +73,7 @@ KnowsItsCore s connect h whole w core sure = (q b : ℕ) → IsTrue (is_in_box w
 
 -- ---- laws
 
--- so it does where the boxes of its nodes are so
+-- so it does where the boxes of these nodes are so
 abbrev pub BoxesTellTheCore : Type 0
 BoxesTellTheCore = (s : Raster) (connect : Connect) (h : ℤ) (whole : Shape) (w : Window) (core sure : Box) → IsPlane s → s.shape ≡ w.shape
     → IsInside whole w → AreSettled h (tree_of s connect).rows (sums_in s connect) w.left w.top whole core sure (length (tree_of s connect).rows)

@@ -1,18 +1,22 @@
 //! Which components a window doesn't know well enough to answer for its core: told from the boxes of its tree's nodes, with no pass over
 //! the pixels.
 
-ghost use Rattle.std.specs.Prelude.{◌≡◌, ℕ, ◌+◌, ◌-◌, ◌<◌, ◌≤◌, ◌↔◌, IsTrue, IsFalse, MatchOption, length, int_le, ◌≤ℤ◌};
+ghost use Rattle.std.specs.Prelude.{◌≡◌, ℕ, ◌+◌, ◌-◌, ◌<◌, ◌≤◌, ◌↔◌, [], IsTrue, IfOk, length, int_lt};
+ghost use Rattle.std.specs.List.{All};
+ghost use Rattle.comp_tree.specs.Nesting.{level_in};
 ghost use Rattle.comp_tree.specs.Windows.{IsInside};
 ghost use Rattle.node_sums.specs.Sums.{AreTheTrees};
 ghost use Rattle.source_sheet.specs.Laid.{window_at};
 ghost use Rattle.tile_laws.specs.Extents.{extent_box};
-ghost use Rattle.tile_laws.specs.Knowing.{node_box, DoMeet, IsSettled, AreSettled, IsUnsettled};
-ghost use Rattle.tile_laws.specs.Boxed.{HasBoxIn, DoMeetAlong};
+ghost use Rattle.tile_laws.specs.Knowing.{HasBoxIn, node_box, DoMeet, IsSettled, IsWholeAt, AreSettled, IsUnsettled};
+ghost use Rattle.tile_laws.specs.Boxed.{DoMeetAlong};
 
 use crate::extents::{Extent, Interval, lies_deep};
-use comp_tree::{NodeRow, Shape, Tree};
+use comp_tree::{NONE, Shape, Tree};
+use costs::OutOfMemory;
 use node_sums::Sums;
 use source_pick::Choice;
+use std::alloc::Global;
 
 /// Where a window lies in an image of shape `whole`: its first pixel stands in column `left` of row `top`.
 #[derive(Clone, Copy, PartialEq, Eq, Debug)]
@@ -22,82 +26,71 @@ pub struct WindowPlace {
     pub whole: Shape,
 }
 
-/// The first node of at least the threshold whose box in the image meets the core and doesn't lie deep in the sure box: a component with a
-/// pixel there may reach out of what the window knows, and is to be looked at in a window around this box. Where there is none the window
-/// knows its core ([`boxes_tell_the_core`](crate::laws::boxes_tell_the_core)).
-pub fn first_open(
+/// The boxes, in the image, of the components at the threshold of which a window may not know all: their boxes meet the core and don't lie deep in the
+/// sure box, so a window around them is to be looked at. Where there are none the window knows its core
+/// ([`boxes_tell_the_core`](crate::laws::boxes_tell_the_core)). The one error is that memory was refused.
+pub fn open_boxes(
+    alloc: Global,
     tree: &Tree,
     sums: &[Sums],
     choice: &Choice,
     place: &WindowPlace,
     core: &Extent,
     sure: &Extent,
-) -> Option<u32>
+) -> Result<Vec<Extent>, OutOfMemory>
     requires sums { AreTheTrees tree.now sums.now }
     requires inside { IsInside place.now.whole (window_at place.now.left place.now.top tree.now.shape) }
-    ensures { MatchOption result
-        (AreSettled choice.now.threshold tree.now.rows sums.now place.now.left place.now.top place.now.whole
-        (extent_box core.now) (extent_box sure.now) (length tree.now.rows))
-        (IsUnsettled choice.now.threshold tree.now.rows sums.now place.now.left place.now.top place.now.whole
-        (extent_box core.now) (extent_box sure.now)) }
+    ensures known { IfOk result (λ boxes. boxes.items ≡ [] → AreSettled choice.now.threshold tree.now.rows sums.now
+        place.now.left place.now.top place.now.whole (extent_box core.now) (extent_box sure.now) (length tree.now.rows)) }
+    ensures unsettled { IfOk result (λ boxes. All (λ found. IsUnsettled choice.now.threshold tree.now.rows sums.now
+        place.now.left place.now.top place.now.whole (extent_box core.now) (extent_box sure.now) (extent_box found)) boxes.items) }
 {
-    let rows = tree.rows();
+    let mut boxes = Vec::new(alloc);
     for n in 0..tree.node_count() {
-        if !is_known(
-            &rows[n as usize],
-            &sums[n as usize],
-            choice,
-            tree,
-            place,
-            core,
-            sure,
-        ) {
-            return Some(n);
+        if is_whole_at(tree, n, choice) {
+            let part = box_of(&sums[n as usize], tree, place);
+            if !is_settled(&part, place.whole, core, sure) {
+                boxes.push(part)?;
+            }
         }
     }
-    None
+    Ok(boxes)
 }
 
-// Whether a node lies below the threshold, or is settled.
-fn is_known(
-    row: &NodeRow,
-    sums: &Sums,
-    choice: &Choice,
-    tree: &Tree,
-    place: &WindowPlace,
-    core: &Extent,
-    sure: &Extent,
-) -> bool
-    requires boxed { HasBoxIn tree.now.shape sums.now }
-    requires inside { IsInside place.now.whole (window_at place.now.left place.now.top tree.now.shape) }
-    ensures known { IsTrue result ↔ (choice.now.threshold ≤ℤ row.now.level
-        → IsSettled place.now.whole (extent_box core.now) (extent_box sure.now) (node_box place.now.left place.now.top sums.now)) }
-    ensures high { IsFalse result → choice.now.threshold ≤ℤ row.now.level }
+// Whether a node has at least the threshold and its parent, if any, hasn't.
+fn is_whole_at(tree: &Tree, n: u32, choice: &Choice) -> bool
+    requires node { n < length tree.now.rows }
+    ensures { IsTrue result ↔ IsWholeAt choice.now.threshold tree.now.rows n }
 {
-    if !is_high(row, choice) {
+    if is_low(tree, n, choice) {
+        return false;
+    }
+    let parent = tree.parent(n);
+    if parent == NONE {
         return true;
     }
-    is_settled(sums, tree, place, core, sure)
+    is_low(tree, parent, choice)
 }
 
-fn is_high(row: &NodeRow, choice: &Choice) -> bool
-    ensures { result ≡ int_le choice.now.threshold row.now.level }
+// Whether a node's level is below the threshold.
+fn is_low(tree: &Tree, n: u32, choice: &Choice) -> bool
+    requires node { n < length tree.now.rows }
+    ensures { result ≡ int_lt (level_in tree.now.rows n) choice.now.threshold }
 {
-    choice.threshold <= row.level
+    tree.rows()[n as usize].level < choice.threshold
 }
 
-// Whether a node's box lies deep in the sure box or doesn't meet the core.
-fn is_settled(sums: &Sums, tree: &Tree, place: &WindowPlace, core: &Extent, sure: &Extent) -> bool
-    requires boxed { HasBoxIn tree.now.shape sums.now }
-    requires inside { IsInside place.now.whole (window_at place.now.left place.now.top tree.now.shape) }
-    ensures { IsTrue result
-        ↔ IsSettled place.now.whole (extent_box core.now) (extent_box sure.now) (node_box place.now.left place.now.top sums.now) }
+// Whether a box lies deep in the sure box or doesn't meet the core.
+fn is_settled(part: &Extent, whole: Shape, core: &Extent, sure: &Extent) -> bool
+    requires columns { part.now.columns.from < part.now.columns.to }
+    requires rows { part.now.rows.from < part.now.rows.to }
+    requires inside { part.now.columns.to ≤ whole.width }
+    ensures { IsTrue result ↔ IsSettled whole (extent_box core.now) (extent_box sure.now) (extent_box part.now) }
 {
-    let part = box_of(sums, tree, place);
-    if !do_meet(core, &part) {
+    if !do_meet(core, part) {
         return true;
     }
-    lies_deep(&part, sure, place.whole)
+    lies_deep(part, sure, whole)
 }
 
 /// The box of a node in the image.

@@ -8,4 +8,4 @@ pub mod laws;
 mod tests;
 
 pub use extents::{Extent, Interval, clear_extent, lies_deep};
-pub use knowing::{WindowPlace, box_of, first_open};
+pub use knowing::{WindowPlace, box_of, open_boxes};

@@ -15,7 +15,7 @@ use Rattle.comp_tree.specs.Components.{reaches, representative, is_representativ
 use Rattle.comp_tree.specs.Laws.{top_of}
 use Rattle.comp_tree.proofs.Exported.{before_is, int_le_trans, int_le_antisym, int_lt-true, cases_int, joined_wider, reaches-is_IsReached, below_from_defined}
 use Rattle.comp_tree.proofs.Exported.{defined_from_at_least, value-level, last_there, last_start, each_component_is_a_node, top-representative, top-defined}
-use Rattle.comp_tree.proofs.Exported.{below_no_node, rows-are, node-undefined, read-node_of, tree_of-is}
+use Rattle.comp_tree.proofs.Exported.{below_no_node, rep-of, rows-are, node-undefined, read-node_of, tree_of-is}
 use Rattle.tree_canon.proofs.Finding.{read_link}
 use Rattle.tree_canon.proofs.Parents.{blank}
 use Rattle.comp_tree.proofs.Exported as Nodes
@@ -289,10 +289,6 @@ rows_read r connect rows is p d =
     ap (λ xs. get_or xs (node_of r connect p) blank) (is ∙ rows-are r connect)
     ∙ get_or-map (row_of r connect) (nodes r connect) (node_of r connect p) 0 blank place.below ∙ ap (row_of r connect) place.it_is
 
-rep_of : (r : Raster) (connect : Connect) (p : ℕ) → (row_of r connect p).rep ≡ p
-unfolding row_of
-rep_of r connect p = refl
-
 parent_in : (r : Raster) (connect : Connect) (p : ℕ) → (row_of r connect p).parent ≡ parent_of r connect p
 unfolding row_of
 parent_in r connect p = refl
@@ -326,7 +322,7 @@ module _ (r : Raster) (connect : Connect) (links : List ℕ) (plane : IsPlane r)
   row_is d = ap (λ n. get_or rows n blank) node_is ∙ rows_read r connect rows rows_is p d
 
   represents : IsTrue (is_defined r p) → (get_or rows (get_or ns p 0) blank).rep ≡ p → representative r connect p ≡ p
-  represents d e = sym (rep_of r connect (representative r connect p)) ∙ sym (ap (λ (row : NodeRow). row.rep) (row_is d)) ∙ e
+  represents d e = sym (rep-of r connect (representative r connect p)) ∙ sym (ap (λ (row : NodeRow). row.rep) (row_is d)) ∙ e
 
   parent_is : IsTrue (is_defined r p) → (get_or rows (get_or ns p 0) blank).rep ≡ p → (get_or rows (get_or ns p 0) blank).parent ≡ parent_of r connect p
   parent_is d e =

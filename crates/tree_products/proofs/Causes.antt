@@ -1,9 +1,7 @@
 -- The count of faults over calls of a sink, one after the other.
 use Rattle.std.proofs.Common.{ℕ, ◌≤◌, arith, Result, Ok, Err}
-use Rattle.dev_io.specs.Causes.{Rose, HasCause}
-
-rose_since : (a b c : ℕ) → a ≤ b → Rose b c → Rose a c
-rose_since a b c before rose = omega (arith, before, rose)
+use Rattle.dev_io.specs.Causes.{HasCause}
+use Rattle.dev_io.proofs.Exported.{rose_since}
 
 -- the last call answers for all of them
 pub cause_after : {T E : Type 0} (a b c : ℕ) (r : Result T E) → a ≤ b → HasCause b c r → HasCause a c r

@@ -16,6 +16,7 @@ use Rattle.source_pick.specs.declared.catalogue.CatRow.{CatRow}
 use Rattle.source_pick.specs.Catalogue.{catalogue_of, catalogue_row, cells_of, FitsColumns}
 use Rattle.source_pick.specs.Segmentation.{AreDisjointNodes}
 use Rattle.source_pick.proofs.Exported.{few_marked, few_rows, row_fits}
+use Rattle.source_sheet.proofs.Exported.{all_more}
 use Rattle.fits_write.specs.CatalogueColumns.{catalogue_columns}
 use Rattle.fits_write.proofs.Exported.{FitEach, catalogue_are_columns, rows_are_table}
 
@@ -37,10 +38,6 @@ pub no_cells : (tree : ComponentTree) (sums : List Sums) (picked : List ℕ) (it
 no_cells tree sums picked items empty = record { rows = []; made = empty; one_each = refl; fit = tt; exact = λ plane connect is are. refl }
 
 -- ---- one row more
-
-all_more : {X : Type 0} (P : X → Type 0) (xs : List X) (x : X) → AllByRecursion P xs → P x → AllByRecursion P (xs ++ x ∷ [])
-all_more P [] x before here = (here, tt)
-all_more P (y ∷ xs) x before here = (before.0, all_more P xs x before.1 here)
 
 length-catalogue : (plane : Raster) (connect : Connect) (picked : List ℕ) → length (catalogue_of plane connect picked) ≡ length picked
 unfolding catalogue_of

@@ -18,7 +18,7 @@ use Rattle.mesh_background.specs.Smoothing.{number_in_grid, places_around, numbe
 use Rattle.mesh_background.specs.Residuals.{filtered_values, pixel_level, background, residual_at, residual_of}
 use Rattle.mesh_background.proofs.Exported.{the_one, stay_between, columns-some, length-smooth}
 use Rattle.tree_products.specs.Trials.{trial_image}
-use Rattle.tree_products.specs.TrialSizes.{IsSmall, HasSmallValues}
+use Rattle.tree_products.specs.SmallValues.{IsSmall, HasSmallValues}
 use Rattle.tree_products.proofs.Trials.{IsByte, trial_bytes, trial_length, get_from_read, level-from}
 
 -- a plane whose values are from 0 to 255

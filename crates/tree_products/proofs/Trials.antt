@@ -23,7 +23,7 @@ use Rattle.node_sums.specs.Flux.{base_of, flux_of}
 use Rattle.node_sums.specs.Sizes.{IsUpTo}
 use Rattle.node_sums.proofs.Exported.{length-filter-le, up_to-minus, total-up_to, BaseCase, at_root, at_child, base-case, flux-is}
 use Rattle.tree_products.specs.Trials.{next_state, states_behind, value_of_state, trial_image}
-use Rattle.tree_products.specs.TrialSizes.{IsSmall, HasSmallValues}
+use Rattle.tree_products.specs.SmallValues.{IsSmall, HasSmallValues}
 use Rattle.tree_products.specs.TrialSizes.{HasSmallFluxes, flux_bound}
 use Rattle.tree_products.proofs.EachArea.{length-sums}
 

@@ -1,6 +1,7 @@
 pub mod Lines
 pub mod Catalogues
 pub mod Trials
+pub mod SmallValues
 pub mod TrialSizes
 pub mod Products
 pub mod Writables

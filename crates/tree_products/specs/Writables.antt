@@ -1,4 +1,4 @@
--- Bookkeeping: what stands ready to be written.
+-- Model: what stands ready to be written.
 use Rattle.std.specs.Prelude.{◌≡◌, ℕ, List, length}
 use Rattle.comp_tree.specs.Raster.{Raster}
 use Rattle.fits_write.specs.Hdus.{plane_hdu}
@@ -9,7 +9,7 @@ use Rattle.tree_products.specs.declared.product.Product.TheVariants as made
 use Rattle.tree_products.specs.Lines.{tree_lines}
 use Rattle.tree_products.specs.Catalogues.{hdus, IsDetection}
 use Rattle.tree_products.specs.Trials.{trial_line}
-use Rattle.tree_products.specs.TrialSizes.{HasSmallValues}
+use Rattle.tree_products.specs.SmallValues.{HasSmallValues}
 
 -- the values of a trial's plane are small and few, so that its fluxes can be added up; no plane by itself suits a job that measures
 abbrev pub SuitsJob : Job → Raster → Type 0

@@ -7,7 +7,7 @@ ghost use Rattle.comp_tree.specs.Raster.{Raster};
 ghost use Rattle.comp_tree.specs.Components.{tree_of};
 ghost use Rattle.node_sums.specs.Sums.{sums_in, IsTreeOfPlane, AreTheTrees};
 ghost use Rattle.tree_products.specs.Trials.{next_state, trial_image as image_of, is_root_row, is_mapped, total_flux, summary_of, trial_line};
-ghost use Rattle.tree_products.specs.TrialSizes.{HasSmallValues};
+ghost use Rattle.tree_products.specs.SmallValues.{HasSmallValues};
 ghost use Rattle.tree_products.specs.TrialSizes.{HasSmallFluxes};
 
 use command_line::lines::put_line;

@@ -3,7 +3,7 @@ use Rattle.std.specs.List.{AllByRecursion}
 use Rattle.std.proofs.lemmas.Option.{cond_some}
 use Rattle.std.proofs.lemmas.Result.{IfOk-weaker}
 use Rattle.comp_tree.specs.declared.shape.Shape.{Shape}
-use Rattle.tree_products.specs.TrialSizes.{IsSmall}
+use Rattle.tree_products.specs.SmallValues.{IsSmall}
 use Rattle.tree_products.proofs.Exported.{small_in_half}
 use Rattle.comp_tree.specs.Raster.{Raster, HasValuesInHalfRange, raster_of}
 use Rattle.measure_top.proofs.measuring_tests.plane_of.Goals as goal

@@ -3,7 +3,8 @@ use Rattle.std.proofs.lemmas.Int.{to_z-of_z}
 use mir.Syntax.{w64}
 use mir.Val.{SFits}
 use Rattle.source_pick.specs.Sheets.{row_back}
-use Rattle.source_sheet.proofs.Rows.{column_read, moved_read, moved_centre_read, same_row}
+use Rattle.source_pick.proofs.Exported.{same_row}
+use Rattle.source_sheet.proofs.Rows.{column_read, moved_read, moved_centre_read}
 use Rattle.source_sheet.proofs.back.row_back.Goals as goal
 
 pub returns : goal.returns

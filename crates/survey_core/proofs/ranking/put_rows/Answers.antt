@@ -1,6 +1,7 @@
 use Rattle.std.proofs.Common.{rules, ap, ◌∙◌}
 use Rattle.survey_core.specs.Ranking.{row_line}
-use Rattle.command_line.proofs.Exported.{waiting, waiting_cut, line_flushed, front_empty, line_is, line_in, all_lines}
+use Rattle.dev_io.proofs.Exported.{front_empty}
+use Rattle.command_line.proofs.Exported.{waiting, waiting_cut, line_flushed, line_is, line_in, all_lines}
 use Rattle.survey_core.proofs.ranking.put_rows.Goals as goal
 
 pub returns-in-Err-clause-bytes : goal.returns-in-Err-clause-bytes

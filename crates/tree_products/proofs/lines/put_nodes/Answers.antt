@@ -1,7 +1,8 @@
 use Rattle.std.proofs.Common.{refl, rules}
 use Rattle.std.proofs.lemmas.List.{get_or_default}
 use Rattle.tree_products.specs.Lines.{lines_of, tree_lines}
-use Rattle.command_line.proofs.Exported.{waiting, waiting_cut, line_flushed, front_empty}
+use Rattle.dev_io.proofs.Exported.{front_empty}
+use Rattle.command_line.proofs.Exported.{waiting, waiting_cut, line_flushed}
 use Rattle.tree_products.proofs.NodeLines.{line_is, line_in, all_lines}
 use Rattle.tree_products.proofs.lines.put_nodes.Goals as goal
 

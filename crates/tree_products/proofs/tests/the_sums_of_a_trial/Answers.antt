@@ -2,7 +2,7 @@ use Rattle.std.proofs.Common.{◌≡◌, ◌*◌, ◌^◌, ◌≤◌, subst, sym
 use Rattle.std.specs.Prelude.{IfSome, Some}
 use Rattle.comp_tree.specs.declared.shape.Shape.{Shape}
 use Rattle.comp_tree.specs.Raster.{Raster}
-use Rattle.tree_products.specs.TrialSizes.{HasSmallValues}
+use Rattle.tree_products.specs.SmallValues.{HasSmallValues}
 use Rattle.tree_products.proofs.Trials.{trial_is_small}
 use Rattle.tree_products.proofs.tests.the_sums_of_a_trial.Goals as goal
 

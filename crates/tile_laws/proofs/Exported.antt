@@ -1,0 +1,8 @@
+-- The lemmas of this crate that crates above use. Its other modules of lemmas are its own.
+
+-- where a pixel lies in a box, and the pixel of a window that stands there
+pub use Rattle.tile_laws.proofs.Sure.{IsPlacedIn, placed_in, in_from_placed, IsSeenAt, seen_at}
+-- a member of a list that is made of another one's, and of one whose members are numbered
+pub use Rattle.tile_laws.proofs.Lists.{IsImageOf, image_of, get_among, rows_from, IsRowOf, row_of}
+-- lists that rise by a number of each member, and have the same members, are the same
+pub use Rattle.tile_laws.proofs.Lists.{rising_equal}

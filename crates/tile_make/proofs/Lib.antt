@@ -1,0 +1,5 @@
+mod Meshing
+mod Moving
+mod Telling
+mod Made
+mod Places

@@ -1,0 +1,141 @@
+-- A row that is moved to the image, as the code moves it, and where its first pixel stands.
+use Rattle.std.proofs.Common.{◌≡◌, ℕ, ◌+◌, ◌-◌, ◌*◌, ◌/◌, ◌%◌, ◌^◌, ◌<◌, ◌≤◌, List, [], ◌∷◌, ◌++◌, get_or, length, map, take, take_all, refl, sym, ◌∙◌, ap, subst, arith, ℤ, neg_ℤ, lit<}
+use Rattle.std.specs.List.{enumerate_from}
+use Rattle.std.proofs.lemmas.List.{take_more, length-map, get_or-map, map-append}
+use Rattle.std.proofs.lemmas.List.Elements.{filter-append}
+use Rattle.std.proofs.lemmas.List.FromFn.{length-enumerate_from, get_or-enumerate_from}
+use Rattle.std.specs.Prelude.{filter, pos, ◌+ℤ◌, ◌*ℤ◌, ◌≤ℤ◌}
+use Rattle.std.proofs.lemmas.Int.{ints, to_z-of_z, to_z_pos}
+use Rattle.std.proofs.lemmas.Nat.{mod_below}
+use mir.Syntax.{w64}
+use mir.Val.{SFits, of_z, to_z}
+use Rattle.comp_tree.specs.declared.shape.Connect.{Connect}
+use Rattle.comp_tree.specs.declared.shape.Shape.{Shape}
+use Rattle.comp_tree.specs.Raster.{Raster, IsPlane}
+use Rattle.comp_tree.specs.Laws.{IsNode}
+use Rattle.comp_tree.specs.Windows.{Window, IsInside}
+use Rattle.comp_tree.proofs.Exported.{below_from_defined, in_node-defined, row_below}
+use Rattle.node_sums.specs.Sums.{sums_of}
+use Rattle.node_sums.proofs.Exported.{fits}
+use Rattle.source_pick.specs.declared.catalogue.CatRow.{CatRow}
+use Rattle.source_pick.specs.Catalogue.{catalogue_of, catalogue_row, measured_row, moved_row, FitsColumn}
+use Rattle.source_pick.proofs.Exported.{first_inside}
+use Rattle.tile_laws.specs.Pieces.{first_pixel}
+use Rattle.tile_join.specs.Tiles.{is_in_frame}
+use Rattle.tile_make.specs.declared.placing.TilePlace.{TilePlace}
+use Rattle.tile_make.specs.Placed.{window_of_place}
+use Rattle.tile_make.specs.Told.{own_of, FirstStandsIn}
+
+column_fits : (z : ℤ) → FitsColumn z → SFits w64 z
+column_fits z k =
+    let low : neg_ℤ (pos (2 ^ 31)) ≤ℤ z = k.low in
+    let high : z ≤ℤ pos (2 ^ 31 - 1) = k.high in
+    fits w64 (2 ^ 31) z (record { low = low; high = omega (arith, ints, high) }) (lit< tt)
+
+pub column_read : (z : ℤ) → FitsColumn z → to_z w64 (of_z w64 z) ≡ z
+column_read z k = to_z-of_z w64 z (column_fits z k)
+
+pub moved_read : (z : ℤ) (a : ℕ) → FitsColumn z → a ≤ 65535 → to_z w64 (of_z w64 (to_z w64 (of_z w64 z) +ℤ to_z w64 a)) ≡ z +ℤ pos a
+moved_read z a k l =
+    let low : neg_ℤ (pos (2 ^ 31)) ≤ℤ z = k.low in
+    let high : z ≤ℤ pos (2 ^ 31 - 1) = k.high in
+    ap (λ (x : ℤ). to_z w64 (of_z w64 (x +ℤ to_z w64 a))) (column_read z k)
+    ∙ ap (λ (x : ℤ). to_z w64 (of_z w64 (z +ℤ x))) (to_z_pos w64 a (omega (arith, l)))
+    ∙ to_z-of_z w64 (z +ℤ pos a)
+    (fits w64 (2 ^ 32) (z +ℤ pos a) (record { low = omega (arith, ints, low, l); high = omega (arith, ints, high, l) }) (lit< tt))
+
+pub moved_centre_read : (z : ℤ) (a : ℕ) → FitsColumn z → a ≤ 65535
+    → to_z w64 (of_z w64 (to_z w64 (of_z w64 z) +ℤ to_z w64 (of_z w64 (pos 1000 *ℤ to_z w64 a)))) ≡ z +ℤ pos (1000 * a)
+moved_centre_read z a k l =
+    let low : neg_ℤ (pos (2 ^ 31)) ≤ℤ z = k.low in
+    let high : z ≤ℤ pos (2 ^ 31 - 1) = k.high in
+    let thousand : pos 1000 *ℤ pos a ≡ pos (1000 * a) = omega (arith, ints) in
+    ap (λ (x : ℤ). to_z w64 (of_z w64 (x +ℤ to_z w64 (of_z w64 (pos 1000 *ℤ to_z w64 a))))) (column_read z k)
+    ∙ ap (λ (x : ℤ). to_z w64 (of_z w64 (z +ℤ to_z w64 (of_z w64 (pos 1000 *ℤ x))))) (to_z_pos w64 a (omega (arith, l)))
+    ∙ ap (λ (x : ℤ). to_z w64 (of_z w64 (z +ℤ to_z w64 (of_z w64 x)))) thousand
+    ∙ ap (λ (x : ℤ). to_z w64 (of_z w64 (z +ℤ x)))
+    (to_z-of_z w64 (pos (1000 * a)) (fits w64 65535000 (pos (1000 * a)) (record { low = omega (arith, ints, l); high = omega (arith, ints, l) }) (lit< tt)))
+    ∙ to_z-of_z w64 (z +ℤ pos (1000 * a))
+    (fits w64 (2 ^ 32) (z +ℤ pos (1000 * a)) (record { low = omega (arith, ints, low, l); high = omega (arith, ints, high, l) }) (lit< tt))
+
+-- the first pixel of a row that was moved stands in the image
+pub first_stands : (r : Raster) (connect : Connect) (number n : ℕ) (whole : Shape) (w : Window) → IsPlane r → IsNode r connect n → r.shape ≡ w.shape
+    → IsInside whole w → FirstStandsIn whole (moved_row w (catalogue_row r connect number n))
+unfolding moved_row catalogue_row measured_row
+first_stands r connect number n whole w plane node same inside = record {
+  left = omega (arith, ints);
+  right = omega (arith, ints, column, wide, inside.columns);
+  top = omega (arith, ints);
+  bottom = omega (arith, ints, row, high, inside.rows);
+}
+  where
+    first : ℕ
+    first = (sums_of r connect n).first
+
+    below : first < length r.values
+    below = below_from_defined r first (in_node-defined r connect n first (first_inside r connect n plane node))
+
+    column : first % r.shape.width < r.shape.width
+    column = mod_below first r.shape.width r.shape.within_limits.some_columns
+
+    row : first / r.shape.width < r.shape.height
+    row = row_below r.shape.width r.shape.height first (subst (λ (k : ℕ). first < k) plane below)
+
+    wide : r.shape.width ≡ w.shape.width
+    wide = ap (λ (s : Shape). s.width) same
+
+    high : r.shape.height ≡ w.shape.height
+    high = ap (λ (s : Shape). s.height) same
+
+-- ---- rows one behind the other
+
+-- one row more of a catalogue
+catalogue_taken : (r : Raster) (connect : Connect) (picked : List ℕ) (i : ℕ) (d : CatRow) → i < length picked
+    → take (i + 1) (catalogue_of r connect picked) ≡ take i (catalogue_of r connect picked) ++ catalogue_row r connect (i + 1) (get_or picked i 0) ∷ []
+unfolding catalogue_of
+catalogue_taken r connect picked i d within =
+    let pairs : List (ℕ × ℕ) = enumerate_from 1 picked in
+    let pair : get_or pairs i (0, 0) ≡ (1 + i, get_or picked i 0) = get_or-enumerate_from 1 picked i (0, 0) within in
+    let few : i < length pairs = omega (arith, within, length-enumerate_from 1 picked) in
+    let rows : List CatRow = map (λ e. catalogue_row r connect e.0 e.1) pairs in
+    take_more rows i d (omega (arith, few, length-map pairs (λ e. catalogue_row r connect e.0 e.1)))
+    ∙ ap (λ (row : CatRow). take i rows ++ row ∷ [])
+    (get_or-map (λ e. catalogue_row r connect e.0 e.1) pairs i (0, 0) d few ∙ ap (λ (e : ℕ × ℕ). catalogue_row r connect e.0 e.1) pair
+    ∙ ap (λ (n : ℕ). catalogue_row r connect n (get_or picked i 0)) (omega arith))
+
+module _ (place : TilePlace) (shape : Shape) where
+  own_append : (xs : List CatRow) (x : CatRow)
+      → own_of place shape (xs ++ x ∷ [])
+      ≡ own_of place shape xs
+      ++ filter (λ row. is_in_frame place.whole.width place.core (first_pixel place.whole.width row)) (moved_row (window_of_place place shape) x ∷ [])
+  unfolding own_of
+  own_append xs x =
+      ap (filter (λ row. is_in_frame place.whole.width place.core (first_pixel place.whole.width row)))
+      (map-append (moved_row (window_of_place place shape)) xs (x ∷ []))
+      ∙ filter-append (λ row. is_in_frame place.whole.width place.core (first_pixel place.whole.width row)) (map (moved_row (window_of_place place shape)) xs)
+      (moved_row (window_of_place place shape) x ∷ [])
+
+  -- the rows so far, one more, and all of them
+  pub own_none : (r : Raster) (connect : Connect) (picked : List ℕ) → own_of place shape (take 0 (catalogue_of r connect picked)) ≡ []
+  unfolding own_of
+  own_none r connect picked = refl
+
+  pub own_more : (r : Raster) (connect : Connect) (picked : List ℕ) (i : ℕ) (before now : List CatRow) (row : CatRow) → i < length picked
+      → before ≡ own_of place shape (take i (catalogue_of r connect picked))
+      → row ≡ moved_row (window_of_place place shape) (catalogue_row r connect (i + 1) (get_or picked i 0))
+      → now ≡ before ++ filter (λ x. is_in_frame place.whole.width place.core (first_pixel place.whole.width x)) (row ∷ [])
+      → now ≡ own_of place shape (take (i + 1) (catalogue_of r connect picked))
+  own_more r connect picked i before now row within same row_is more =
+      more
+      ∙ ap (λ (xs : List CatRow). xs ++ filter (λ x. is_in_frame place.whole.width place.core (first_pixel place.whole.width x)) (row ∷ [])) same
+      ∙ ap (λ (x : CatRow). own_of place shape (take i (catalogue_of r connect picked))
+      ++ filter (λ y. is_in_frame place.whole.width place.core (first_pixel place.whole.width y)) (x ∷ [])) row_is
+      ∙ sym (own_append (take i (catalogue_of r connect picked)) (catalogue_row r connect (i + 1) (get_or picked i 0)))
+      ∙ ap (own_of place shape) (sym (catalogue_taken r connect picked i row within))
+
+  pub own_all : (r : Raster) (connect : Connect) (picked : List ℕ) (i : ℕ) (rows : List CatRow) → length picked ≤ i
+      → rows ≡ own_of place shape (take i (catalogue_of r connect picked)) → rows ≡ own_of place shape (catalogue_of r connect picked)
+  unfolding catalogue_of
+  own_all r connect picked i rows whole same =
+      same ∙ ap (own_of place shape) (take_all i (catalogue_of r connect picked)
+      (omega (arith, whole, length-map (enumerate_from 1 picked) (λ e. catalogue_row r connect e.0 e.1), length-enumerate_from 1 picked)))

@@ -1,0 +1,23 @@
+use Rattle.std.proofs.Common.{◌≡◌, ◌<◌, sym, ◌∙◌, ap, subst, arith, length}
+use Rattle.comp_tree.specs.ComponentTree.{ComponentTree}
+use Rattle.comp_tree.specs.Components.{nodes}
+use Rattle.comp_tree.proofs.Exported.{length-rows, shape-of}
+use Rattle.source_pick.specs.Catalogue.{catalogue_row, moved_row}
+use Rattle.tile_make.specs.Placed.{window_of_place}
+use Rattle.tile_make.specs.Told.{FirstStandsIn}
+use Rattle.tile_make.proofs.Moving.{first_stands}
+use Rattle.tile_make.proofs.rows.row_in_image.Goals as goal
+
+pub returns-clause-stands : goal.returns-clause-stands
+returns-clause-stands c =
+    let t = c.requires.sums in
+    let tree = c.args.tree.now in
+    let connect = t.of_plane.connect in
+    let w = window_of_place c.args.place.now tree.shape in
+    let node : c.args.node < length (nodes t.plane connect) =
+    omega (arith, c.requires.node, ap (λ (x : ComponentTree). length x.rows) t.of_plane.tree_is, length-rows t.plane connect) in
+    let shape : t.plane.shape ≡ tree.shape = sym (ap (λ (x : ComponentTree). x.shape) t.of_plane.tree_is ∙ shape-of t.plane connect) in
+    let same : c.in_image.result ≡ moved_row w (catalogue_row t.plane connect c.args.number c.args.node) =
+    c.in_image.ensures tree.shape ∙ ap (moved_row w) (c.row.ensures.exact t.plane connect t.of_plane.tree_is t.of_plane.sums_are) in
+    subst (FirstStandsIn c.args.place.now.whole) (sym same)
+    (first_stands t.plane connect c.args.number c.args.node c.args.place.now.whole w t.one_each node shape c.requires.inside)

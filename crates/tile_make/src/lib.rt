@@ -1,0 +1,11 @@
+//! A tile of an image: what detection in a window tells of the whole, and of which components it may not know all.
+#![tactic(auto)]
+
+mod cells;
+mod making;
+mod opening;
+mod placing;
+mod rows;
+
+pub use making::{TileStop, make_tile};
+pub use placing::TilePlace;
