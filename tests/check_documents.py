@@ -2,7 +2,7 @@
 
 usage: python3 tests/check_documents.py      (at the top of the repository; exit status 1 where something is amiss)
 
-The crates stand in docs/ARCHITECTURE.md, docs/PROVED.md and docs/RESULTS.md as crates.txt has them, in its order; each
+The crates stand in docs/ARCHITECTURE.md and docs/PROVED.md as crates.txt has them, in its order; each
 name that docs/DEFINITIONS.md explains is a definition's; each file that a document links to or names is there; what
 speaks of the catalogue's columns has those of `fits_write`, in their order; no two documents share a paragraph; and a
 byte's way through `detect`, as docs/ARCHITECTURE.md draws it, is through at most thirteen crates. What is amiss among
@@ -49,15 +49,6 @@ def paragraphs(text):
             yield " ".join(words)
 
 
-def rows(text, heading):
-    """The rows of the table with this heading that begin with a crate: its name and the other cells."""
-    table = text[text.index(heading) :].split("\n\n")[0]
-    for line in table.splitlines():
-        found = re.match(r"\| `(\w+)` \|(.*)\|$", line)
-        if found:
-            yield found[1], [cell.strip() for cell in found[2].split("|")]
-
-
 def other_crates(text):
     """Where documents have other crates than crates.txt, or another order."""
     wanted = crates()
@@ -65,7 +56,6 @@ def other_crates(text):
     told = {
         "docs/ARCHITECTURE.md": re.findall(r"^- `(\w+)`:", listed.partition("\n## ")[0], flags=re.M),
         "docs/PROVED.md": re.findall(r"^## `(\w+)`", text["docs/PROVED.md"], flags=re.M),
-        "docs/RESULTS.md": [name for name, _ in rows(text["docs/RESULTS.md"], "| Crate | Seconds |")],
     }
     for name, found in told.items():
         if found != list(wanted):

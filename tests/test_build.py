@@ -72,12 +72,13 @@ class Tree:
             path.mkdir(parents=True)
         (self.kit / "WHAT").write_text("a kit")
         for name, text in {"rt": "", "rattle": RATTLE, "rattle-link": LINK}.items():
-            (self.kit / "bin" / name).write_text(f"#!{sys.executable}{text}")
+            (self.kit / "bin" / name).write_text(f"#!{sys.executable} -IS{text}")
             (self.kit / "bin" / name).chmod(0o755)
         self.environment = {"PATH": str(self.kit / "bin"), "LOG": str(self.log), "TMPDIR": str(self.said)}
 
     def start(self, *programs, user=None, **environment):
-        words = [sys.executable, str(self.top / "scripts" / "build"), *programs]
+        # Without its site's modules Python is there sooner.
+        words = [sys.executable, "-IS", str(self.top / "scripts" / "build"), *programs]
         who = {} if user is None else {"user": user, "group": user, "extra_groups": []}
         # The tests may run where an interrupt is ignored.
         how = {"preexec_fn": lambda: signal.signal(signal.SIGINT, signal.SIG_DFL), **who}
@@ -186,13 +187,13 @@ def test_a_crate_that_fails_is_told(tree, crate):
 
 
 def test_it_ends_what_it_began(tree):
-    running = tree.start("maxdetect", "maxsurvey", TAKES="2")
+    running = tree.start("maxdetect", "maxsurvey", TAKES="1")
     while not tree.told("begun"):
-        time.sleep(0.1)
+        time.sleep(0.05)
     running.send_signal(signal.SIGTERM)
     assert running.wait(20) == 143
     proved = tree.told("proved")
-    time.sleep(3)
+    time.sleep(1.5)
     assert tree.told("proved") == proved
     assert not tree.is_built("maxdetect")
 

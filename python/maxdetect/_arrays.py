@@ -1,15 +1,18 @@
 """The whole way of `maxcat` for an image that is there as an array."""
 import concurrent.futures
+from dataclasses import replace
 from typing import TYPE_CHECKING, Optional, Sequence, Tuple
 
 import numpy
 from astropy.io import fits
 
-from . import _detection as detection, _kernel as kernel, _finishing as finishing, _stored as stored
+from . import _detection as detection, _finishing as finishing, _kernel as kernel, _stored as stored
 from ._docs import described
 from ._estimates import floats
 from ._limits import TILE
-from ._nddata import AnyImage, parts_of
+from ._nddata import AnyImage, Parts, parts_of
+from ._rows import Rows
+from ._settings import Settings
 
 if TYPE_CHECKING:
     from astropy.table import Table
@@ -41,6 +44,29 @@ def _numbers(image, label: str) -> numpy.ndarray:
     if array.dtype.kind not in "biuf":
         raise TypeError(f"{label} has numbers, not {array.dtype}")
     return array
+
+
+def _is_local(rms: str) -> bool:
+    """Whether the noise is told by cells."""
+    if rms not in ("even", "local"):
+        raise ValueError(f"rms is even or local, not {rms}")
+    return rms == "local"
+
+
+def _field(parts: Parts, settings: Settings) -> detection.Field[ArrayPlane]:
+    """What sources are sought in: the image, and the noise of its pixels where that is given."""
+    values = _numbers(parts.array, "an image")
+    weights = None if parts.noise is None else ArrayPlane(_numbers(parts.noise, "the noise"), "the noise")
+    if weights is not None and weights.shape != numpy.shape(values):
+        raise ValueError(f"the noise has the sides {weights.shape}, the image {numpy.shape(values)}")
+    return detection.Field(ArrayPlane(values), settings, weights=weights)
+
+
+def _finished(rows: Rows, parts: Parts, header: Optional[fits.Header], zeropoint: Optional[float]) -> "Table":
+    """The catalogue of these rows, with magnitudes, places in the sky and units where image or header tell them."""
+    unit = parts.unit if parts.unit or header is None else finishing.unit_of(header)
+    place = header if parts.wcs is None else parts.wcs
+    return finishing.finished_rows(rows, place, zeropoint=zeropoint, unit=unit).table()
 
 
 @described
@@ -142,39 +168,12 @@ def catalogue(
     NoProgram
         Where the program isn't found.
     """
-    if rms not in ("even", "local"):
-        raise ValueError(f"rms is even or local, not {rms}")
-    settings = detection.Settings(
-        sigmas=sigmas,
-        fwhm=fwhm,
-        mesh=mesh,
-        min_area=min_area,
-        contrast=contrast,
-        split_sigmas=split_sigmas,
-        clean=clean,
-        cosmic_rays=cosmic_rays,
-        wide=wide,
-        weight_type="rms",
-        local=rms == "local",
-        gain=gain,
-        saturation=saturation,
-        apertures=tuple(apertures),
-        kron=kron,
-        vignet=vignet,
-        tile=tile,
-        workers=workers,
-    )
+    settings = Settings(sigmas=sigmas, fwhm=fwhm, mesh=mesh, min_area=min_area, wide=wide, local=_is_local(rms))
+    settings = replace(settings, contrast=contrast, split_sigmas=split_sigmas, clean=clean, cosmic_rays=cosmic_rays)
+    settings = replace(settings, gain=gain, saturation=saturation, apertures=tuple(apertures), kron=kron, vignet=vignet)
+    settings = replace(settings, weight_type="rms", tile=tile, workers=workers)
     parts = parts_of(image, noise=noise, header=header)
-    values = _numbers(parts.array, "an image")
-    weights = None if parts.noise is None else ArrayPlane(_numbers(parts.noise, "the noise"), "the noise")
-    if weights is not None and weights.shape != numpy.shape(values):
-        raise ValueError(f"the noise has the sides {weights.shape}, the image {numpy.shape(values)}")
-    plane = ArrayPlane(values)
-    field = detection.Field(plane, settings, weights=weights)
-    segments = numpy.zeros(plane.shape, dtype="i4")
-    table = detection.sources(field, executor, segments=segments, program=program)
-    unit = parts.unit if parts.unit or header is None else finishing.unit_of(header)
-    finished = finishing.finished_rows(
-        table, header if parts.wcs is None else parts.wcs, zeropoint=zeropoint, unit=unit
-    )
-    return finished.table(), segments
+    field = _field(parts, settings)
+    segments = numpy.zeros(field.shape, dtype="i4")
+    rows = detection.sources(field, executor, segments=segments, program=program)
+    return _finished(rows, parts, header, zeropoint), segments

@@ -372,9 +372,9 @@ def _read_rows(file):
         return Rows({name: _native(rows[name]) for name in names}), _native(hdus["SEGMENT"].data)
 
 
-def _written_rows(file):
+def _written_rows(file, hdus):
     """The same of what the program wrote just now: read as it stands, since astropy loads its tables for one."""
-    found = {header.get("EXTNAME"): (header, place) for header, place in _hdus(file)}
+    found = {header.get("EXTNAME"): (header, place) for header, place in hdus}
     header, place = found["SOURCES"]
     fields = [
         (header[f"TTYPE{number}"], {"J": ">i4", "K": ">i8"}[header[f"TFORM{number}"]])
@@ -425,12 +425,17 @@ def read(file: Union[Path, BinaryIO]) -> Tuple["Table", numpy.ndarray]:
     return catalogue_of(rows), segments
 
 
-def _answer(output, shape, reading=read):
+def _written(file, hdus):
+    """The catalogue and the segmentation map that the program wrote just now."""
+    rows, segments = _written_rows(file, hdus)
+    return catalogue_of(rows), segments
+
+
+def _answer(output, shape, reading=_written):
     """What the program wrote just now of an image of this shape, read so: its last part is an image too."""
     with output:
         try:
-            _hdus(output)
-            found = reading(output)
+            found = reading(output, _hdus(output))
         except (OSError, EOFError, KeyError, ValueError, TypeError, IndexError, AttributeError, fits.VerifyError):
             raise Refusal(None, None, "truncated", "what maxdetect wrote is cut short, or no FITS file") from None
     if numpy.shape(found[-1]) != tuple(shape):
@@ -456,7 +461,7 @@ def _hdus(file):
     return found
 
 
-def _read_plane(file):
+def _read_plane(file, hdus):
     """The values of what `maxdetect filter` wrote."""
     with fits.open(file, memmap=False, do_not_scale_image_data=True) as hdus:
         return (_native(hdus[0].data),)

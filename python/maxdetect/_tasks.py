@@ -46,16 +46,12 @@ def _default_output(path: str, kind: Optional[str] = None) -> str:
     return os.fspath(base) + {"ldac": ".ldac", "votable": ".cat.xml"}.get(kind or "fits", f".cat.{kind or 'fits'}")
 
 
-def _field(plane: images.Plane, given: argparse.Namespace) -> detection.Field[images.Plane]:
-    """An image with what belongs to it."""
-    beside = given.hdu == "all"
-    texts = (
-        *(("mask", given.mask), ("weights", given.weight), ("values", given.measure)),
-        *(("value_weights", given.measure_weight), ("flag_map", given.flag_map)),
-    )
-    others = {name: images.matching(text, plane, given.plane) for name, text in texts if text}
-    measured = others.get("values", plane)
-    settings = detection.Settings(
+def _settings(plane: images.Plane, measured: images.Plane, given: argparse.Namespace) -> detection.Settings:
+    """How sources are looked for in an image, and measured in it or another one. Gain and saturation that aren't asked
+    for are those of the headers.
+    """
+    alone = given.hdu != "all" and len(given.images) == 1
+    return detection.Settings(
         sigmas=given.sigmas,
         fwhm=given.fwhm,
         mesh=given.mesh,
@@ -75,11 +71,23 @@ def _field(plane: images.Plane, given: argparse.Namespace) -> detection.Field[im
         apertures=given.apertures,
         kron=given.kron,
         vignet=given.vignet or 0,
-        workers=1 if beside or len(given.images) > 1 else given.workers,
+        workers=given.workers if alone else 1,
     )
+
+
+def _field(plane: images.Plane, given: argparse.Namespace) -> detection.Field[images.Plane]:
+    """An image with what belongs to it."""
+    texts = {
+        "mask": given.mask,
+        "weights": given.weight,
+        "values": given.measure,
+        "value_weights": given.measure_weight,
+        "flag_map": given.flag_map,
+    }
+    others = {name: images.matching(text, plane, given.plane) for name, text in texts.items() if text}
     return detection.Field(
         plane,
-        settings,
+        _settings(plane, others.get("values", plane), given),
         mask=others.get("mask"),
         weights=others.get("weights"),
         values=others.get("values"),

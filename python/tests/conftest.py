@@ -7,7 +7,12 @@ import sys
 import pytest
 
 TOP = pathlib.Path(__file__).resolve().parent.parent.parent
+# How many examples of each property are tried.
+EXAMPLES = int(os.environ.get("EXAMPLES") or 25)
 sys.path.insert(0, str(TOP / "python"))
+# Tests run beside each other, and a library's threads that wait for their like would take the others' processors.
+for library in ("OMP", "OPENBLAS"):
+    os.environ.setdefault(f"{library}_NUM_THREADS", "1")
 
 numpy = pytest.importorskip("numpy")
 pytest.importorskip("astropy")
@@ -15,8 +20,16 @@ pytest.importorskip("scipy")
 pytest.importorskip("sep")
 
 
+# The modules whose tests take longest.
+LONG = ("test_tile_properties", "test_properties", "test_round_trips", "test_whole_fields", "test_killed_workers")
+LONG += ("test_machines", "test_report")
+
+
 def pytest_collection_modifyitems(items):
-    """Without the program there is nothing to test; building it would take many minutes."""
+    """Long tests begin first, so that in the end no process waits for another's. Without the program there is nothing
+    to test; building it would take many minutes.
+    """
+    items.sort(key=lambda item: item.path.stem not in LONG)
     if not os.environ.get("MAXDETECT") and not shutil.which("maxdetect"):
         for item in items:
             item.add_marker(pytest.mark.skip(reason="the environment's MAXDETECT names no program"))

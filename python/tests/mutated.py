@@ -1,5 +1,6 @@
 """A small corpus of FITS files of every form, and files that differ from these in a few cards or bytes."""
 import bz2
+import functools
 import gzip
 import io
 from typing import Callable, Dict, List, Tuple
@@ -63,6 +64,7 @@ def _bytes(*hdus, **cards) -> bytes:
     return file.getvalue()
 
 
+@functools.lru_cache(maxsize=None)
 def corpus() -> Dict[str, Tuple[Callable[[bytes], bytes], bytes]]:
     """For each name the bytes that are changed, and what is done with them then."""
     sky = {"CTYPE1": "RA---TAN", "CTYPE2": "DEC--TAN", "CRVAL1": 150.0, "CRVAL2": 2.0, "CRPIX1": 1, "CRPIX2": 1}
@@ -91,7 +93,7 @@ def corpus() -> Dict[str, Tuple[Callable[[bytes], bytes], bytes]]:
     plain = {name: (bytes, content) for name, content in found.items()}
     packed = {f"{name} in gz": (gzip.compress, found[name]) for name in ("floats", "shorts", "several")}
     broken = {
-        "broken gz": (bytes, gzip.compress(found["shorts"])),
+        "broken gz": (bytes, gzip.compress(found["shorts"], mtime=0)),
         "broken bz2": (bytes, bz2.compress(found["shorts"])),
     }
     return {**plain, **packed, "shorts in bz2": (bz2.compress, found["shorts"]), **broken}

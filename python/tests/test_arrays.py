@@ -45,7 +45,7 @@ def test_masks_and_nan_are_alike():
 @pytest.mark.parametrize("mesh", [0, 64])
 @pytest.mark.parametrize("form", ["f4", ">f4", "f8", "i4", "i8"])
 def test_the_order_in_memory_changes_nothing(form, mesh):
-    image = star_field()[0].astype(form)
+    image = star_field()[0][:160, :200].astype(form)
     for turned in (image.copy(order="F"), numpy.ma.MaskedArray(image.copy(order="F"), mask=False)):
         one, first = catalogue(image, mesh=mesh, gain=1.0)
         two, second = catalogue(turned, mesh=mesh, gain=1.0)

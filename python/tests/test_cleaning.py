@@ -147,12 +147,12 @@ def test_the_whole_way_cleans_unless_told_not_to():
 
 @pytest.mark.parametrize("fwhm", (20.0, 50.0))
 def test_tiles_decide_as_the_whole_where_the_box_is_wider_than_their_margin(fwhm):
-    rng, side = numpy.random.default_rng(5), 640
+    rng, side = numpy.random.default_rng(5), 400
     rows, columns = numpy.mgrid[:side, :side]
     image = rng.normal(500, 10, (side, side))
-    for x, y, radius, height in zip(*rng.uniform(0, side, (2, 60)), rng.uniform(5, 60, 60), rng.uniform(9, 90, 60)):
+    for x, y, radius, height in zip(*rng.uniform(0, side, (2, 30)), rng.uniform(5, 60, 30), rng.uniform(9, 90, 30)):
         image += height * numpy.exp(-((columns - x) ** 2 + (rows - y) ** 2) / (2 * radius**2))
-    image[300:310, 200:500] = numpy.nan
+    image[190:200, 120:310] = numpy.nan
     options = dict(fwhm=fwhm, mesh=256, sigmas=2.0)
     whole, whole_map = maxdetect.catalogue(image, **options)
     kept, _ = maxdetect.catalogue(image, clean=False, **options)

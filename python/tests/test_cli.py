@@ -1,5 +1,6 @@
 """The command `maxcat`, from files to files."""
 import errno
+import multiprocessing
 import os
 import signal
 import subprocess
@@ -84,7 +85,7 @@ def test_a_star_field(here, stars, capsys):
 )
 def test_tiles_give_what_the_whole_gives(here, monkeypatch, words):
     whole = catalogue("image.fits", "-o", "whole.fits", "--map", "whole.map.fits", *words)
-    cut_into_tiles(monkeypatch, 90)
+    cut_into_tiles(monkeypatch, 128)
     tiled = catalogue("image.fits", "-o", "tiled.fits", "--map", "tiled.map.fits", "--workers", 3, *words)
     assert len(whole) == len(tiled) > 20
     for name in CATALOGUE:
@@ -303,18 +304,31 @@ WRONG = [
 ]
 
 
+@pytest.fixture(scope="module")
+def files(tmp_path_factory, stars):
+    """A folder with the star field and files of which something is wrong; no mistake changes it."""
+    folder = tmp_path_factory.mktemp("files")
+    (folder / "other").mkdir()
+    images = {
+        "image.fits": stars[0],
+        "small.fits": numpy.zeros((9, 9), dtype="f4"),
+        "flat.fits": numpy.zeros((90, 90), dtype="f4"),
+        "nothing.fits": numpy.full((90, 90), numpy.nan, dtype="f4"),
+        "ones.fits": numpy.ones((256, 256), dtype="u1"),
+        "huge.fits": stars[0].astype("f8") * 1e200,
+        "tiny.fits": stars[0] * 1e-36,
+        "other/image.fits": numpy.ones((9, 9), dtype="f4"),
+    }
+    for name, image in images.items():
+        fits.writeto(folder / name, image, header() if name == "image.fits" else None)
+    (folder / "text.fits").write_text("text\n")
+    (folder / "latin.txt").write_bytes(b"X\n\xe9\n")
+    return folder
+
+
 @pytest.mark.parametrize("words, text", WRONG, ids=[" ".join(words) or "nothing" for words, _ in WRONG])
-def test_mistakes_are_one_line_and_leave_nothing(here, capsys, words, text):
-    fits.writeto("small.fits", numpy.zeros((9, 9), dtype="f4"))
-    fits.writeto("flat.fits", numpy.zeros((90, 90), dtype="f4"))
-    fits.writeto("nothing.fits", numpy.full((90, 90), numpy.nan, dtype="f4"))
-    fits.writeto("ones.fits", numpy.ones((256, 256), dtype="u1"))
-    fits.writeto("huge.fits", fits.getdata("image.fits").astype("f8") * 1e200)
-    fits.writeto("tiny.fits", fits.getdata("image.fits") * 1e-36)
-    (here / "text.fits").write_text("text\n")
-    (here / "latin.txt").write_bytes(b"X\n\xe9\n")
-    (here / "other").mkdir()
-    fits.writeto("other/image.fits", numpy.ones((9, 9), dtype="f4"))
+def test_mistakes_are_one_line_and_leave_nothing(files, monkeypatch, capsys, words, text):
+    monkeypatch.chdir(files)
     assert text in told(capsys, *words)
 
 
@@ -408,23 +422,29 @@ def test_bad_images_among_good_ones(here, capsys, workers):
 
 @pytest.mark.parametrize("workers, images", [(1, 1), (2, 1), (2, 2)])
 @pytest.mark.parametrize("number", [signal.SIGINT, signal.SIGTERM, signal.SIGHUP])
-def test_a_signal_leaves_nothing(here, number, workers, images):
+def test_a_signal_leaves_nothing(here, monkeypatch, number, workers, images):
     (here / "slow").write_text("#!/bin/sh\ntouch started\nexec sleep 60\n")
     (here / "slow").chmod(0o755)
+    monkeypatch.setenv("MAXDETECT", str(here / "slow"))
     os.link("image.fits", "other.fits")
-    environment = {**os.environ, "PYTHONPATH": str(TOP / "python"), "MAXDETECT": str(here / "slow")}
-    words = ["image.fits", "other.fits"][:images] + ([] if images > 1 else ALL[1:])
-    command = [sys.executable, "-m", "maxdetect._cli", *words, "--workers", str(workers)]
+    words = ["image.fits", "other.fits"][:images] + ([] if images > 1 else ALL[1:]) + ["--workers", str(workers)]
     before = sorted(os.listdir("."))
-    # The tests may run where it is ignored, as by nohup.
-    heard = {"preexec_fn": lambda: signal.signal(number, signal.SIG_DFL)}
-    with subprocess.Popen(command, env=environment, **heard) as running:
-        while not os.path.exists("started"):
-            assert running.poll() is None
-            time.sleep(0.05)
-        assert [name for name in os.listdir(".") if ".part" in name]
-        running.send_signal(number)
-    assert running.returncode == 128 + number
+
+    def run():
+        # The tests may run where it is ignored, as by nohup.
+        signal.signal(number, signal.SIG_DFL)
+        sys.exit(cli.main(words))
+
+    # What is tested begins behind the start of Python, so a process that has begun is forked.
+    forked = multiprocessing.get_context("fork").Process(target=run)
+    forked.start()
+    while not os.path.exists("started"):
+        assert forked.is_alive()
+        time.sleep(0.02)
+    assert [name for name in os.listdir(".") if ".part" in name]
+    os.kill(forked.pid, number)
+    forked.join(300)
+    assert forked.exitcode == 128 + number
     assert sorted(os.listdir(".")) == sorted([*before, "started"])
 
 

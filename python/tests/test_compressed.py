@@ -5,7 +5,8 @@ import pytest
 
 from maxdetect import _compressed as compressed
 
-STREAM = gzip.compress(bytes(range(200)))
+# Without the time, since all processes of the tests have to give a test the same name.
+STREAM = gzip.compress(bytes(range(200)), mtime=0)
 
 
 def hcompress(height, width, rest=15):
@@ -13,12 +14,14 @@ def hcompress(height, width, rest=15):
     return b"\xdd\x99" + height.to_bytes(4, "big", signed=True) + width.to_bytes(4, "big", signed=True) + bytes(rest)
 
 
-@pytest.mark.parametrize("tile", [b"", STREAM])
+@pytest.mark.parametrize("tile", [b"", STREAM], ids=["nothing", "a stream"])
 def test_whole_streams_are_taken(tile):
     compressed._check_gzip(tile, 200)
 
 
-@pytest.mark.parametrize("tile", [STREAM[:-9], STREAM[:20] + b"x" + STREAM[21:], b"no stream"])
+@pytest.mark.parametrize(
+    "tile", [STREAM[:-9], STREAM[:20] + b"x" + STREAM[21:], b"no stream"], ids=["cut", "changed", "none"]
+)
 def test_broken_streams_are_not(tile):
     with pytest.raises(ValueError, match="^a compressed tile is broken"):
         compressed._check_gzip(tile, 200)

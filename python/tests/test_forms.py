@@ -93,7 +93,7 @@ def plain(column):
 )
 def test_values_that_differ_by_one_far_out(tmp_path, monkeypatch, stars, form, kind, low):
     monkeypatch.chdir(tmp_path)
-    rough = numpy.clip(stars[0] / 8, 0, 300).astype("i8")
+    rough = numpy.clip(stars[0][:110, :160] / 8, 0, 300).astype("i8")
     values = (rough.astype(object) + low).astype(kind)
     zero = 2**63 if kind == "u8" else 0
     stored = (values.astype(object) - zero).astype("i8")
@@ -108,7 +108,7 @@ def test_values_that_differ_by_one_far_out(tmp_path, monkeypatch, stars, form, k
     assert cli.main(["near.fits", "-o", "near.cat.fits", f"--saturation={int(limit) - low}"]) == 0
     far, near = Table.read("far.cat.fits"), Table.read("near.cat.fits")
     arrays = maxdetect.catalogue(values, saturation=limit)[0]
-    assert len(far) > 20
+    assert len(far) > 5
     for found in (far, arrays):
         for name in near.colnames:
             # What the program sees is rounded to whole numbers: of the same light, less another level, at times apart.
@@ -117,10 +117,13 @@ def test_values_that_differ_by_one_far_out(tmp_path, monkeypatch, stars, form, k
             assert numpy.allclose(plain(found[name]), wanted, min(loose, 1e-5), loose, equal_nan=True), name
 
 
+BLANKS = {"image": 32001, "mask": 32, "weight": 32001, "measure": 32001}
+
+
 @pytest.fixture(scope="module")
 def field(stars, tmp_path_factory):
     """The star field in 16 bits with two squares that are undefined, a mask, weights and a second image of it, and
-    what is found with all four as arrays of floating-point numbers.
+    what is found with all four as files of floating-point numbers.
     """
     rng, folder = numpy.random.default_rng(4), tmp_path_factory.mktemp("field")
     stored = {"image": numpy.clip(stars[0] / 8, 0, 32000).astype("i2")}
@@ -129,24 +132,27 @@ def field(stars, tmp_path_factory):
     stored["weight"] = rng.integers(90, 110, (256, 256)).astype("i2")
     stored["measure"] = numpy.clip(stars[0] / 5, 0, 32000).astype("i2")
     for number, name in enumerate(stored):
-        stored[name][60 + 20 * number : 80 + 20 * number, 30:60] = 32 if name == "mask" else 32001
-    return folder, stored
+        stored[name][60 + 20 * number : 80 + 20 * number, 30:60] = BLANKS[name]
+    words = []
+    for name, numbers_of in stored.items():
+        path = str(folder / f"{name}.float.fits")
+        fits.writeto(path, forms.values(numbers_of, {"BLANK": BLANKS[name]}))
+        words += [path] if name == "image" else [f"--{name}", path]
+    assert cli.main([*words, "-o", str(folder / "float.cat.fits")]) == 0
+    return folder, stored, Table.read(folder / "float.cat.fits")
 
 
 @pytest.mark.parametrize("form", forms.FORMS)
 def test_the_same_sources(field, form):
-    folder, stored = field
+    folder, stored, wanted = field
     words = []
     for name, numbers_of in stored.items():
-        cards = {"BLANK": 32 if name == "mask" else 32001}
+        cards = {"BLANK": BLANKS[name]}
         own = form if forms.holds(form, numbers_of) else "plain"
         path = forms.written(folder / f"{name}.{form}.fits", numbers_of, cards, own)
-        fits.writeto(folder / f"{name}.float.fits", forms.values(numbers_of, cards), overwrite=True)
         words += [path] if name == "image" else [f"--{name}", path]
     assert cli.main([*words, "-o", str(folder / "cat.fits")]) == 0
-    plain = [word.replace(f".{form}.", ".float.") for word in words]
-    assert cli.main([*plain, "-o", str(folder / "float.cat.fits")]) == 0
-    found, wanted = (Table.read(folder / name) for name in ("cat.fits", "float.cat.fits"))
+    found = Table.read(folder / "cat.fits")
     assert len(found) == len(wanted) > 15
     for name in ("X", "Y", "AREA", "FLUX", "FLUX_ISO", "FLUXERR_ISO", "FLAGS"):
         assert numpy.allclose(found[name], wanted[name], rtol=1e-4, equal_nan=True), name

@@ -39,7 +39,7 @@ def way(image, **settings):
 
 @pytest.mark.parametrize("width", [1.5, 2.6, 6.0])
 def test_white_noise_keeps_its_deviation(width):
-    many = numpy.stack([smoothing.smoothed(white((40, 50), seed), width) for seed in range(400)])
+    many = numpy.stack([smoothing.smoothed(white((40, 50), seed), width) for seed in range(300)])
     spread = many.std(axis=0)
     assert spread.mean() == pytest.approx(1, abs=0.01)
     for edge in (spread[0], spread[-1], spread[:, 0], spread[:, -1]):
@@ -102,19 +102,19 @@ def noise_behind(image, width):
 
 @pytest.mark.parametrize("width", [1.5, 2.6, 5.0])
 def test_the_noise_behind_white_noise_is_the_same(width):
-    assert noise_behind(white((1024, 1024)), width) == pytest.approx(1, abs=0.03)
+    assert noise_behind(white((700, 700)), width) == pytest.approx(1, abs=0.03)
 
 
 def test_noise_that_pixels_share_is_more_behind():
-    shared = ndimage.uniform_filter(white((1024, 1024), noise=3.0), 2)
+    shared = ndimage.uniform_filter(white((700, 700), noise=3.0), 2)
     told = noise_behind(shared, 2.6)
     assert told == pytest.approx(smoothing.smoothed(shared, 2.6).std(), rel=0.04) and told > 1.5 * shared.std()
 
 
 def test_fringes_are_no_noise():
-    rows, columns = numpy.mgrid[:1024, :1024]
+    rows, columns = numpy.mgrid[:700, :700]
     fringes = 0.6 * numpy.sin(2 * numpy.pi * (columns / 73 + numpy.sin(rows / 170)))
-    image = (white((1024, 1024)) + fringes).astype("f4")
+    image = (white((700, 700)) + fringes).astype("f4")
     assert noise_behind(image, 2.6) == pytest.approx(1, abs=0.12)
     assert smoothing.smoothed(image, 2.6).std() > 1.5
 
@@ -179,7 +179,7 @@ def test_noise_that_cannot_be_told_is_that_of_a_pixel():
 def false_rate(sigmas, smooth, electrons, seed):
     """How often a smoothed sky of so few electrons passes a threshold."""
     mean = electrons**2
-    counts = numpy.random.default_rng(seed).poisson(mean, (3000, 3000)).astype("f4")
+    counts = numpy.random.default_rng(seed).poisson(mean, (2000, 2000)).astype("f4")
     image = (counts - numpy.float32(mean)) / numpy.float32(electrons)
     image = smoothing.smoothed(image, smooth) if smooth else image
     return (image > sigmas).mean()

@@ -13,15 +13,15 @@ from maxdetect._arrays import ArrayPlane
 @pytest.fixture(scope="module")
 def crowd():
     """Stars with wide wings, a galaxy, a nebula, and rows without a value, on a sky with a slope and a step."""
-    rng, shape = numpy.random.default_rng(11), (300, 280)
+    rng, shape = numpy.random.default_rng(11), (220, 200)
     light = numpy.zeros(shape)
-    light[rng.integers(0, 300, 500), rng.integers(0, 280, 500)] = 10 ** rng.uniform(2.5, 4.5, 500)
+    light[rng.integers(0, 220, 270), rng.integers(0, 200, 270)] = 10 ** rng.uniform(2.5, 4.5, 270)
     rows, columns = numpy.indices(shape)
     image = 900 + 3 * ndimage.gaussian_filter(light, 1.5) + ndimage.gaussian_filter(light, 9) + columns / 10
-    image += 400 * numpy.exp(-numpy.hypot(rows - 150, columns - 140) / 8)
+    image += 400 * numpy.exp(-numpy.hypot(rows - 110, columns - 100) / 8)
     image = rng.poisson(image).astype("f4")
-    image[200:206] = numpy.nan
-    image[:, 170:] += 5
+    image[150:156] = numpy.nan
+    image[:, 120:] += 5
     return image
 
 
@@ -44,20 +44,20 @@ WAYS = [
 ]
 
 
-@pytest.mark.parametrize("settings", [*WAYS, {"noise": numpy.linspace(28, 34, 280) + numpy.zeros((300, 280))}])
+@pytest.mark.parametrize("settings", [*WAYS, {"noise": numpy.linspace(28, 34, 200) + numpy.zeros((220, 200))}])
 def test_all_columns_are_the_same_for_all_tiles(crowd, settings):
     whole = maxdetect.catalogue(crowd, **settings)
-    assert len(whole[0]) > 150
+    assert len(whole[0]) > 80
     are_the_same(whole, maxdetect.catalogue(crowd, tile=128, **settings))
     with concurrent.futures.ThreadPoolExecutor(3) as pool:
-        are_the_same(whole, maxdetect.catalogue(crowd, tile=96, executor=pool, **settings))
+        are_the_same(whole, maxdetect.catalogue(crowd, tile=110, executor=pool, **settings))
 
 
 def test_all_columns_are_the_same_for_all_workers(crowd):
     whole = maxdetect.catalogue(crowd)
     are_the_same(whole, maxdetect.catalogue(crowd, workers=3))
     with concurrent.futures.ProcessPoolExecutor(2) as pool:
-        are_the_same(whole, maxdetect.catalogue(crowd, tile=192, executor=pool))
+        are_the_same(whole, maxdetect.catalogue(crowd, tile=128, executor=pool))
 
 
 def test_blocks_hold_all_that_is_looked_at(crowd, monkeypatch):

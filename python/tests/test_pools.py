@@ -115,7 +115,8 @@ def test_a_signal_leaves_nothing(here, names, number, monkeypatch):
     with subprocess.Popen(words, cwd=here, env=ENVIRONMENT, stderr=subprocess.PIPE, text=True, **heard) as running:
         until = time.monotonic() + 300
         while len(left(here)) < 3 and running.poll() is None and time.monotonic() < until:
-            time.sleep(0.01)
+            # To look through all processes takes time of its own.
+            time.sleep(0.04)
         time.sleep(0.1)
         running.send_signal(number)
         told = running.communicate(timeout=300)[1]

@@ -1,6 +1,6 @@
 """Properties that hold for every image and every file, tried on random ones.
 
-EXAMPLES says how many are tried of each; without it a hundred are.
+The environment's EXAMPLES says how many are tried of each; without it 25 are.
 """
 import contextlib
 import os
@@ -15,12 +15,12 @@ from astropy.table import Table
 import forms
 import maxdetect
 import mutated
+from conftest import EXAMPLES
 from maxdetect import _cli as cli, _images as images
 
 hypothesis = pytest.importorskip("hypothesis", reason="properties want python3-hypothesis")
 st = hypothesis.strategies
 
-EXAMPLES = int(os.environ.get("EXAMPLES", 100))
 trying = hypothesis.settings(
     max_examples=EXAMPLES,
     deadline=None,

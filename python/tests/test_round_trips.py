@@ -1,6 +1,6 @@
 """What is written and read back is the same, for catalogues, regions, maps, images and surveys that are made up.
 
-EXAMPLES in the environment is how many each property is tried with (100 if it isn't there).
+EXAMPLES in the environment is how many each property is tried with (25 if it isn't there).
 """
 import contextlib
 import csv
@@ -22,13 +22,14 @@ from hypothesis import HealthCheck, given, settings  # noqa: E402
 from hypothesis import strategies as st  # noqa: E402
 
 import maxdetect  # noqa: E402
+from conftest import EXAMPLES  # noqa: E402
 from maxdetect import _exporting as exporting, _finishing as finishing, _planefiles as planefiles  # noqa: E402
 from maxdetect import _regions as regions, _surveys as surveys, _tables as tables  # noqa: E402
 from maxdetect._columns import CATALOGUE  # noqa: E402
 
 pytestmark = pytest.mark.filterwarnings("ignore::astropy.utils.exceptions.AstropyWarning")
 tried = settings(
-    max_examples=int(os.environ.get("EXAMPLES", "100")),
+    max_examples=EXAMPLES,
     deadline=None,
     database=None,
     print_blob=True,

@@ -14,7 +14,7 @@ from maxdetect import _starting as starting
 TOP = pathlib.Path(__file__).resolve().parent.parent.parent
 ENVIRONMENT = {**os.environ, "PYTHONPATH": str(TOP / "python")}
 SCRIPT = "import sys\n\nfrom maxdetect._cli import main\n\nsys.exit(main())\n"
-MOMENTS = 12
+MOMENTS = 8
 
 
 def said(*words):

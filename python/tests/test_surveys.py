@@ -61,6 +61,12 @@ def program():
     return found
 
 
+@pytest.fixture(scope="module")
+def table(stars):
+    """The catalogue of the star field; no test changes it."""
+    return maxdetect.catalogue(stars[0])[0]
+
+
 def sky(at=150.0):
     wcs = WCS(naxis=2)
     wcs.wcs.ctype, wcs.wcs.crval, wcs.wcs.crpix = ["RA---TAN", "DEC--TAN"], [at, 2.0], [1.0, 1.0]
@@ -205,8 +211,8 @@ def killed_within_an_add(path):
 
 
 @pytest.mark.parametrize("left", ["as the program ends", "without its log", "killed", "plain"])
-def test_a_look_makes_no_file_and_needs_no_right_to(shown, stars, program, left):
-    table, path = maxdetect.catalogue(stars[0])[0], shown / "s.db"
+def test_a_look_makes_no_file_and_needs_no_right_to(shown, table, program, left):
+    path = shown / "s.db"
     if left == "plain":
         kept(path, A=cells(*(row(number + 1, 5) for number in range(len(table)))))
     else:
@@ -244,8 +250,8 @@ def at_work(program, path, data):
 
 
 @pytest.mark.skipif(os.geteuid() != 0, reason="it wants a writer who isn't the reader")
-def test_who_cannot_write_the_folder_reads_beside_a_writer(shown, stars, program):
-    table, path = maxdetect.catalogue(stars[0])[0], shown / "s.db"
+def test_who_cannot_write_the_folder_reads_beside_a_writer(shown, table, program):
+    path = shown / "s.db"
     maxdetect.add(path, "A", table, program=program)
     (shown / "a.cat").write_bytes(adding.survey_file(table))
     with at_work(program, path, shown / "a.cat") as done:
@@ -288,8 +294,7 @@ def listed(program, path):
     return subprocess.run([program, "--file", path, "list"], stdout=subprocess.PIPE, check=True, text=True).stdout
 
 
-def test_a_catalogue_is_added_and_read_back(tmp_path, stars, program):
-    table, _ = maxdetect.catalogue(stars[0])
+def test_a_catalogue_is_added_and_read_back(tmp_path, table, program):
     path = tmp_path / "s.db"
     maxdetect.add(path, "STARS", table)
     opened = maxdetect.survey(path)
@@ -304,8 +309,7 @@ def test_a_catalogue_is_added_and_read_back(tmp_path, stars, program):
     assert listed(program, path).startswith("STARS 3 ")
 
 
-def test_what_is_not_added(tmp_path, stars, program, monkeypatch):
-    table, _ = maxdetect.catalogue(stars[0])
+def test_what_is_not_added(tmp_path, table, program, monkeypatch):
     with pytest.raises(Mistake, match="no field's name"):
         maxdetect.add(tmp_path / "s.db", "A B", table)
     with pytest.raises(Mistake, match="is a folder"):
@@ -340,8 +344,8 @@ def looking(path):
             reading.communicate()
 
 
-def test_adds_beside_a_reader(tmp_path, stars, program):
-    table, path = maxdetect.catalogue(stars[0])[0], tmp_path / "s.db"
+def test_adds_beside_a_reader(tmp_path, table, program):
+    path = tmp_path / "s.db"
     maxdetect.add(path, "A", table)
     with looking(path), looking(path):
         for number in range(30):
@@ -349,8 +353,7 @@ def test_adds_beside_a_reader(tmp_path, stars, program):
     assert len(maxdetect.survey(path)) == 31
 
 
-def test_why_the_file_is_not_taken(tmp_path, stars, program, monkeypatch):
-    table, _ = maxdetect.catalogue(stars[0])
+def test_why_the_file_is_not_taken(tmp_path, table, program, monkeypatch):
     monkeypatch.setattr(survey_files, "PATIENCE", 0.5)
 
     def told(path):
@@ -402,9 +405,9 @@ def test_why_the_file_is_not_taken(tmp_path, stars, program, monkeypatch):
         ("PRAGMA page_size = 512", "", None),
     ],
 )
-def test_what_else_stands_in_the_file(tmp_path, stars, program, monkeypatch, before, behind, cause):
+def test_what_else_stands_in_the_file(tmp_path, table, program, monkeypatch, before, behind, cause):
     monkeypatch.setattr(survey_files, "PATIENCE", 0)
-    table, path = maxdetect.catalogue(stars[0])[0], tmp_path / "s.db"
+    path = tmp_path / "s.db"
     with contextlib.closing(sqlite3.connect(path, isolation_level=None)) as file:
         file.executescript(f"{before}; {SCHEMA}; {behind}")
     if cause is None:

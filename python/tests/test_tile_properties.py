@@ -1,7 +1,7 @@
 """Laws that hold for any image, tried on random ones; the day gives the seed, or the environment's SEED.
 
-A hundred examples of each are tried, or as many as the environment's EXAMPLES says. tests/compare_tiles.py tries many
-more of the first law.
+25 examples of each are tried, or as many as the environment's EXAMPLES says. tests/compare_tiles.py tries many more of
+the first law.
 """
 import concurrent.futures
 import datetime
@@ -10,7 +10,7 @@ import os
 
 import numpy
 import pytest
-from conftest import TOP
+from conftest import EXAMPLES, TOP
 from scipy import ndimage
 
 hypothesis = pytest.importorskip("hypothesis", reason="wants hypothesis (Debian: python3-hypothesis)")
@@ -22,7 +22,6 @@ from maxdetect import _background as background, _detection as detection, _empty
 from maxdetect import _tiles as tiles, _windows as windows  # noqa: E402
 
 SEED = int(os.environ.get("SEED") or datetime.date.today().strftime("%Y%m%d"))
-EXAMPLES = int(os.environ.get("EXAMPLES") or 100)
 
 
 @pytest.fixture(scope="module", autouse=True)

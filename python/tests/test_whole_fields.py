@@ -1,4 +1,4 @@
-"""Tiles of whole fields of 1024 x 1024 pixels: each source of the field, with every column, and the map.
+"""Tiles of whole fields of 700 x 700 pixels: each source of the field, with every column, and the map.
 
 This is what the law of pieces promises where each tile answers for its core; it is tried on the fields of the guide.
 """
@@ -10,7 +10,7 @@ from conftest import TOP
 
 import maxdetect
 
-SIDE = 1024
+SIDE = 700
 
 
 def guide():
@@ -40,7 +40,7 @@ def test_tiles_give_the_sources_of_the_whole(fields, mesh, flat, connect, tile):
         options = dict(min_area=5, mesh=mesh, flat=flat, connect=connect)
         whole, segments = maxdetect.detect(image, threshold, **options)
         found, mapped = maxdetect.detect_tiles(image, threshold, tile, **options)
-        assert len(whole) > 200 and not found.meta.get("CUT")
+        assert len(whole) > 150 and not found.meta.get("CUT")
         for name in whole.colnames:
             assert (whole[name] == found[name]).all(), name
         assert (segments == mapped).all()

@@ -15,7 +15,7 @@ use Rattle.fits_write.specs.declared.table.Cell.{Cell}
 use Rattle.fits_write.specs.declared.table.Column.{Column}
 use Rattle.fits_write.specs.Blocks.{room_after}
 use Rattle.fits_write.specs.Waiting.{Waits}
-use Rattle.fits_write.specs.Hdus.{header, table_cards, table_front, table_back}
+use Rattle.fits_write.specs.Hdus.{header, named_cards, table_front, named_back}
 use Rattle.fits_write.specs.Columns.{column_cards, form_of, bytes_at, cell_bytes, cell_at, number_at}
 use Rattle.fits_write.proofs.Pieces.{Waits-after, Waits-cut, from_nothing, cut_filled, waits_filled}
 
@@ -97,17 +97,17 @@ cell_is columns cells k cell number h where_is here =
 all_cards : (front middle back : List (List ℕ)) → concat (front ++ middle ++ back) ≡ (concat front ++ concat middle) ++ concat back
 all_cards front middle back = concat-append (front ++ middle) back ∙ ap (λ l. l ++ concat back) (concat-append front middle)
 
-pub front_cut : (a b : Option (List ℕ)) (start : List ℕ) (columns : List Column) (rows : ℕ) (cards : List (List ℕ)) → start ≡ []
+pub front_cut : (name : List ℕ) (a b : Option (List ℕ)) (start : List ℕ) (columns : List Column) (rows : ℕ) (cards : List (List ℕ)) → start ≡ []
     → cards ≡ table_front columns rows
-    → AppendsPrefix a b (start ++ concat cards) → AppendsPrefix a b (header (table_cards columns rows))
-unfolding header table_cards
-front_cut a b start columns rows cards empty are p =
+    → AppendsPrefix a b (start ++ concat cards) → AppendsPrefix a b (header (named_cards name columns rows))
+unfolding header named_cards
+front_cut name a b start columns rows cards empty are p =
     let front = table_front columns rows in
     let middle = column_cards 1 columns in
     let here : AppendsPrefix a b (concat front) = subst (λ l. AppendsPrefix a b (concat l)) are (front_empty a b start (concat cards) empty p) in
-    let more : AppendsPrefix a b ((concat front ++ concat middle) ++ concat table_back) =
-    AppendsPrefix-more a b (concat front ++ concat middle) (concat table_back) (AppendsPrefix-more a b (concat front) (concat middle) here) in
-    cut_filled a b (concat (front ++ middle ++ table_back)) 32 (subst (AppendsPrefix a b) (sym (all_cards front middle table_back)) more)
+    let more : AppendsPrefix a b ((concat front ++ concat middle) ++ concat (named_back name)) =
+    AppendsPrefix-more a b (concat front ++ concat middle) (concat (named_back name)) (AppendsPrefix-more a b (concat front) (concat middle) here) in
+    cut_filled a b (concat (front ++ middle ++ (named_back name))) 32 (subst (AppendsPrefix a b) (sym (all_cards front middle (named_back name))) more)
 
 pub middle_waits : (a b c : Option (List ℕ)) (start : List ℕ) (columns : List Column) (rows : ℕ) (cards : List (List ℕ)) (v w : List ℕ) → start ≡ []
     → cards ≡ table_front columns rows
@@ -117,38 +117,38 @@ middle_waits a b c start columns rows cards v w empty are p q =
     Waits-after a b c (concat (table_front columns rows)) (concat (column_cards 1 columns)) v w
     (subst (λ l. Waits a b (concat l) v) are (from_nothing a b start (concat cards) v empty p)) q
 
-pub middle_cut : (a b c : Option (List ℕ)) (start : List ℕ) (columns : List Column) (rows : ℕ) (cards : List (List ℕ)) (v : List ℕ) → start ≡ []
+pub middle_cut : (name : List ℕ) (a b c : Option (List ℕ)) (start : List ℕ) (columns : List Column) (rows : ℕ) (cards : List (List ℕ)) (v : List ℕ) → start ≡ []
     → cards ≡ table_front columns rows
-    → Waits a b (start ++ concat cards) v → AppendsPrefix b c (v ++ concat (column_cards 1 columns)) → AppendsPrefix a c (header (table_cards columns rows))
-unfolding header table_cards
-middle_cut a b c start columns rows cards v empty are p q =
+    → Waits a b (start ++ concat cards) v → AppendsPrefix b c (v ++ concat (column_cards 1 columns)) → AppendsPrefix a c (header (named_cards name columns rows))
+unfolding header named_cards
+middle_cut name a b c start columns rows cards v empty are p q =
     let front = table_front columns rows in
     let middle = column_cards 1 columns in
     let before : Waits a b (concat front) v = subst (λ l. Waits a b (concat l) v) are (from_nothing a b start (concat cards) v empty p) in
-    cut_filled a c (concat (front ++ middle ++ table_back)) 32
-    (subst (AppendsPrefix a c) (sym (all_cards front middle table_back)) (Waits-cut a b c (concat front) (concat middle) (concat table_back) v before q))
+    cut_filled a c (concat (front ++ middle ++ (named_back name))) 32
+    (subst (AppendsPrefix a c) (sym (all_cards front middle (named_back name))) (Waits-cut a b c (concat front) (concat middle) (concat (named_back name)) v before q))
 
-pub back_cut : (a b c : Option (List ℕ)) (columns : List Column) (rows : ℕ) (cards : List (List ℕ)) (v : List ℕ) → cards ≡ table_back
+pub back_cut : (name : List ℕ) (a b c : Option (List ℕ)) (columns : List Column) (rows : ℕ) (cards : List (List ℕ)) (v : List ℕ) → cards ≡ named_back name
     → Waits a b (concat (table_front columns rows) ++ concat (column_cards 1 columns)) v → AppendsPrefix b c (v ++ concat cards)
-    → AppendsPrefix a c (header (table_cards columns rows))
-unfolding header table_cards
-back_cut a b c columns rows cards v are p q =
+    → AppendsPrefix a c (header (named_cards name columns rows))
+unfolding header named_cards
+back_cut name a b c columns rows cards v are p q =
     let front = table_front columns rows in
     let middle = column_cards 1 columns in
-    let cut : AppendsPrefix a c (((concat front ++ concat middle) ++ concat table_back) ++ []) =
-    Waits-cut a b c (concat front ++ concat middle) (concat table_back) [] v p (subst (λ l. AppendsPrefix b c (v ++ concat l)) are q) in
-    let all : ((concat front ++ concat middle) ++ concat table_back) ++ [] ≡ concat (front ++ middle ++ table_back) =
-    append-nil ((concat front ++ concat middle) ++ concat table_back) ∙ sym (all_cards front middle table_back) in
-    cut_filled a c (concat (front ++ middle ++ table_back)) 32 (subst (AppendsPrefix a c) all cut)
+    let cut : AppendsPrefix a c (((concat front ++ concat middle) ++ concat (named_back name)) ++ []) =
+    Waits-cut a b c (concat front ++ concat middle) (concat (named_back name)) [] v p (subst (λ l. AppendsPrefix b c (v ++ concat l)) are q) in
+    let all : ((concat front ++ concat middle) ++ concat (named_back name)) ++ [] ≡ concat (front ++ middle ++ (named_back name)) =
+    append-nil ((concat front ++ concat middle) ++ concat (named_back name)) ∙ sym (all_cards front middle (named_back name)) in
+    cut_filled a c (concat (front ++ middle ++ (named_back name))) 32 (subst (AppendsPrefix a c) all cut)
 
-pub header_filled : {T E : Type 0} (a b c d : Option (List ℕ)) (r : Result T E) (columns : List Column) (rows : ℕ) (cards : List (List ℕ)) (v w : List ℕ)
-    → cards ≡ table_back
+pub header_filled : {T E : Type 0} (name : List ℕ) (a b c d : Option (List ℕ)) (r : Result T E) (columns : List Column) (rows : ℕ) (cards : List (List ℕ)) (v w : List ℕ)
+    → cards ≡ named_back name
     → Waits a b (concat (table_front columns rows) ++ concat (column_cards 1 columns)) v → Waits b c (v ++ concat cards) w
-    → PutAppends c d r (w ++ replicate (room_after (length w)) 32) → PutAppends a d r (header (table_cards columns rows))
-unfolding header table_cards
-header_filled a b c d r columns rows cards v w are p q put =
+    → PutAppends c d r (w ++ replicate (room_after (length w)) 32) → PutAppends a d r (header (named_cards name columns rows))
+unfolding header named_cards
+header_filled name a b c d r columns rows cards v w are p q put =
     let front = table_front columns rows in
     let middle = column_cards 1 columns in
-    let all : Waits a c ((concat front ++ concat middle) ++ concat table_back) w =
-    Waits-after a b c (concat front ++ concat middle) (concat table_back) v w p (subst (λ l. Waits b c (v ++ concat l) w) are q) in
-    waits_filled a c d r (concat (front ++ middle ++ table_back)) w 32 (subst (λ l. Waits a c l w) (sym (all_cards front middle table_back)) all) put
+    let all : Waits a c ((concat front ++ concat middle) ++ concat (named_back name)) w =
+    Waits-after a b c (concat front ++ concat middle) (concat (named_back name)) v w p (subst (λ l. Waits b c (v ++ concat l) w) are q) in
+    waits_filled a c d r (concat (front ++ middle ++ (named_back name))) w 32 (subst (λ l. Waits a c l w) (sym (all_cards front middle (named_back name))) all) put

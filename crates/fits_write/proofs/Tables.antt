@@ -1,5 +1,5 @@
 -- Rows of cells that fit their columns are tables that can be written.
-use Rattle.std.proofs.Common.{◌≡◌, ◌∙◌, ℕ, zero, suc, ◌+◌, ◌-◌, ◌*◌, ◌/◌, ◌%◌, ◌^◌, ◌<◌, ◌≤◌, List, [], ◌∷◌, ◌++◌, length, get_or, flat_map}
+use Rattle.std.proofs.Common.{◌≡◌, ◌∙◌, ℕ, zero, suc, ◌+◌, ◌-◌, ◌*◌, ◌/◌, ◌%◌, ◌<◌, ◌≤◌, List, [], ◌∷◌, ◌++◌, length, get_or, flat_map}
 use Rattle.std.proofs.Common.{refl, sym, ap, ap₂, subst, subst₂, arith, length-append, mod-eq_of_lt}
 use Rattle.std.proofs.Common.{mul-suc, mul-zero, mul-one, mul-add, ℤ, pos, IsTrue, ◌⊎◌, inl, inr}
 use Rattle.std.specs.List.{list_all, AllByRecursion}

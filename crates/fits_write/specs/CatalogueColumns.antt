@@ -1,5 +1,5 @@
 -- Model: the columns of a catalogue, and how many cells and bytes a row of them has.
-use Rattle.std.specs.Prelude.{ℕ, ◌+◌, ◌*◌, List, [], ◌∷◌, ◌++◌, codes}
+use Rattle.std.specs.Prelude.{ℕ, ◌+◌, List, [], ◌∷◌, ◌++◌, codes}
 use Rattle.fits_write.specs.declared.table.Cell.{Cell}
 use Rattle.fits_write.specs.declared.table.Cell.TheVariants.{J, K}
 use Rattle.fits_write.specs.declared.table.Column.{Column}

@@ -1,5 +1,5 @@
 -- Model: the columns of a binary table and their cells (FITS Standard 4.0, section 7.3).
-use Rattle.std.specs.Prelude.{◌≡◌, ℕ, ◌+◌, ◌^◌, ◌/◌, ◌%◌, ◌<◌, ◌≤◌, IsTrue}
+use Rattle.std.specs.Prelude.{◌≡◌, ℕ, ◌+◌, ◌/◌, ◌%◌, ◌<◌, ◌≤◌, IsTrue}
 use Rattle.std.specs.Prelude.{List, [], ◌∷◌, length, map, codes, ℤ, pos, FitsSigned, ⊤, slice_index_or, sum_by}
 use Rattle.std.specs.List.{concat, list_all, range_with_len}
 use Rattle.std.specs.Int.{w32, w64, cast_unsigned}

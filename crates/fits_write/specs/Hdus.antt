@@ -86,13 +86,21 @@ table_front columns rows =
     ∷ written_integer (codes "GCOUNT  ") (pos 1)
     ∷ written_integer (codes "TFIELDS ") (pos (length columns)) ∷ []
 
-unfoldable pub table_back : List (List ℕ)
-table_back = written_text (codes "EXTNAME ") (codes "SOURCES") ∷ written_end ∷ []
+-- a table with this name
+unfoldable pub named_back : List ℕ → List (List ℕ)
+named_back name = written_text (codes "EXTNAME ") name ∷ written_end ∷ []
 
--- the cards of a table with so many rows
-unfoldable pub table_cards : List Column → ℕ → List (List ℕ)
-table_cards columns rows = table_front columns rows ++ column_cards 1 columns ++ table_back
+-- its cards, with so many rows
+unfoldable pub named_cards : List ℕ → List Column → ℕ → List (List ℕ)
+named_cards name columns rows = table_front columns rows ++ column_cards 1 columns ++ named_back name
 
 -- the cells stand row by row
+unfoldable pub named_hdu : List ℕ → List Column → List ℤ → List ℕ
+named_hdu name columns cells = header (named_cards name columns (length cells / length columns)) ++ filled 0 (table_bytes columns cells)
+
+-- the same of the name `SOURCES`
+unfoldable pub table_cards : List Column → ℕ → List (List ℕ)
+table_cards = named_cards (codes "SOURCES")
+
 unfoldable pub table_hdu : List Column → List ℤ → List ℕ
-table_hdu columns cells = header (table_cards columns (length cells / length columns)) ++ filled 0 (table_bytes columns cells)
+table_hdu = named_hdu (codes "SOURCES")

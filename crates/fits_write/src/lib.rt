@@ -25,7 +25,7 @@ pub use map::put_map;
 pub use plane::put_plane;
 pub use primary::put_empty_primary;
 pub use rows::add_row;
-pub use table::{Cell, Column, put_table};
+pub use table::{Cell, Column, put_named_table, put_table};
 
 #[cfg(test)]
 mod tests;

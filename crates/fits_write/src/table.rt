@@ -7,7 +7,7 @@ ghost use Rattle.fits_write.specs.Blocks.{filled};
 ghost use Rattle.fits_write.specs.Waiting.{Waits};
 ghost use Rattle.fits_card.specs.Written.{is_plain, numbered_keyword};
 ghost use Rattle.fits_write.specs.Columns.{IsTable, FitsCell, cell_size, cell_bytes, form_of, row_size, column_cards, table_bytes};
-ghost use Rattle.fits_write.specs.Hdus.{header, table_front, table_back, table_cards, table_hdu};
+ghost use Rattle.fits_write.specs.Hdus.{header, table_front, named_back, named_cards, named_hdu, table_hdu};
 
 use crate::WriteFault;
 use crate::blocks::Blocks;
@@ -32,13 +32,31 @@ pub struct Column {
 
 /// Writes a binary table extension with the name `SOURCES`. The cells stand row by row, and each number of a `J` column fits
 /// 32 bits.
+#[tactic(auto, unfolding(crate::specs::Hdus::table_hdu))]
 pub fn put_table<O: Sink>(sink: &mut O, columns: &[Column], cells: &[i64]) -> Result<(), WriteFault>
     requires { IsTable columns.now cells.now }
     ensures bytes { PutAppends (O.written sink.old) (O.written sink.new) result
         (table_hdu columns.now cells.now) }
     ensures cause { HasCause (O.faults sink.old) (O.faults sink.new) result }
 {
-    match put_header_and_cells(sink, columns, cells) {
+    put_named_table(sink, b"SOURCES", columns, cells)
+}
+
+/// The same under another name, of printing ASCII without a quote.
+pub fn put_named_table<O: Sink>(
+    sink: &mut O,
+    name: &[u8],
+    columns: &[Column],
+    cells: &[i64],
+) -> Result<(), WriteFault>
+    requires short { length name.now ≤ 68 }
+    requires plain { IsTrue (list_all is_plain name.now) }
+    requires table { IsTable columns.now cells.now }
+    ensures bytes { PutAppends (O.written sink.old) (O.written sink.new) result
+        (named_hdu name.now columns.now cells.now) }
+    ensures cause { HasCause (O.faults sink.old) (O.faults sink.new) result }
+{
+    match put_header_and_cells(sink, name, columns, cells) {
         Ok(()) => Ok(()),
         Err(_) => Err(WriteFault),
     }
@@ -46,26 +64,36 @@ pub fn put_table<O: Sink>(sink: &mut O, columns: &[Column], cells: &[i64]) -> Re
 
 fn put_header_and_cells<O: Sink>(
     sink: &mut O,
+    name: &[u8],
     columns: &[Column],
     cells: &[i64],
 ) -> Result<(), Failed>
-    requires { IsTable columns.now cells.now }
+    requires short { length name.now ≤ 68 }
+    requires plain { IsTrue (list_all is_plain name.now) }
+    requires table { IsTable columns.now cells.now }
     ensures bytes { PutAppends (O.written sink.old) (O.written sink.new) result
-        (table_hdu columns.now cells.now) }
+        (named_hdu name.now columns.now cells.now) }
     ensures cause { HasCause (O.faults sink.old) (O.faults sink.new) result }
 {
-    if let Err(failed) = put_table_header(sink, columns, cells.len() / columns.len()) {
+    if let Err(failed) = put_table_header(sink, name, columns, cells.len() / columns.len()) {
         return Err(failed);
     }
     put_cells(sink, columns, cells)
 }
 
-fn put_table_header<O: Sink>(sink: &mut O, columns: &[Column], rows: usize) -> Result<(), Failed>
+fn put_table_header<O: Sink>(
+    sink: &mut O,
+    name: &[u8],
+    columns: &[Column],
+    rows: usize,
+) -> Result<(), Failed>
+    requires short { length name.now ≤ 68 }
+    requires plain { IsTrue (list_all is_plain name.now) }
     requires few_columns { length columns.now ≤ 99 }
     requires few_rows { rows ≤ 2147483647 }
     requires plain_names { IsTrue (list_all (λ column. list_all is_plain column.name) columns.now) }
     ensures bytes { PutAppends (O.written sink.old) (O.written sink.new) result
-        (header (table_cards columns.now rows)) }
+        (header (named_cards name.now columns.now rows)) }
     ensures cause { HasCause (O.faults sink.old) (O.faults sink.new) result }
 {
     let mut blocks = Blocks::new();
@@ -75,7 +103,7 @@ fn put_table_header<O: Sink>(sink: &mut O, columns: &[Column], rows: usize) -> R
     if let Err(failed) = add_columns(sink, &mut blocks, columns) {
         return Err(failed);
     }
-    if let Err(failed) = add_cards(sink, &mut blocks, &table_back()) {
+    if let Err(failed) = add_cards(sink, &mut blocks, &named_back(name)) {
         return Err(failed);
     }
     blocks.fill(sink, b' ')
@@ -101,11 +129,13 @@ fn table_front(columns: &[Column], rows: usize) -> [Card; 8]
 }
 
 // The cards behind those of the columns.
-#[tactic(auto, unfolding(crate::specs::Hdus::table_back))]
-fn table_back() -> [Card; 2]
-    ensures { result ≡ table_back }
+#[tactic(auto, unfolding(crate::specs::Hdus::named_back))]
+fn named_back(name: &[u8]) -> [Card; 2]
+    requires short { length name.now ≤ 68 }
+    requires plain { IsTrue (list_all is_plain name.now) }
+    ensures { result ≡ named_back name.now }
 {
-    [text_card(b"EXTNAME ", b"SOURCES"), end_card()]
+    [text_card(b"EXTNAME ", name), end_card()]
 }
 
 fn row_size(columns: &[Column]) -> usize

@@ -127,6 +127,24 @@ fn a_table_is_written(rt: HostRuntime) -> Result<(), Fail> {
 }
 
 #[test]
+fn a_table_has_its_name(rt: HostRuntime) -> Result<(), Fail> {
+    let columns = [Column {
+        name: *b"XMIN    ",
+        cell: Cell::J,
+    }];
+    let mut sink = MemSink::new(vec![in rt.alloc(); 1; 5760]?, &[], 0);
+    assert_eq!(rt; put_named_table(&mut sink, b"TILE", &columns, &[7]), Ok(()));
+    let bytes = sink.bytes();
+    assert_eq!(rt; bytes.len(), 5760);
+    assert!(rt; is_card(bytes, 7, b"TFIELDS =                    1"));
+    assert!(rt; is_card(bytes, 8, b"TTYPE1  = 'XMIN    '"));
+    assert!(rt; is_card(bytes, 10, b"EXTNAME = 'TILE    '"));
+    assert!(rt; is_card(bytes, 11, b"END"));
+    assert_eq!(rt; &bytes[2880..2884], b"\0\0\0\x07".as_slice());
+    Ok(())
+}
+
+#[test]
 fn a_table_without_rows_is_a_header(rt: HostRuntime) -> Result<(), Fail> {
     let column = Column {
         name: *b"LEVEL   ",

@@ -10,3 +10,5 @@ pub use Rattle.mesh_background.proofs.Levels.{stay_between}
 pub use Rattle.mesh_background.proofs.Seeing.{background_is_seen, residual_is_seen, residual_is_shown, clear_is_told}
 -- the shape of a residual, and the value of a pixel of it
 pub use Rattle.mesh_background.proofs.Seeing.{residual_shape, residual_value}
+-- a plane of small values has them in half of the range
+pub use Rattle.mesh_background.proofs.HalfRanges.{half_range-push, half_range-of}

@@ -199,7 +199,7 @@ fn background_is_subtracted_in_place(rt: HostRuntime) -> Result<(), Fail> {
     Ok(())
 }
 
-// Where memory is refused the plane is as it was. `scripts/growths.py` runs this with each growth of memory refused in turn.
+// Where memory is refused the plane is as it was. `tests/growths.py` runs this with each growth of memory refused in turn.
 #[test]
 fn background_is_subtracted_whole_or_not_at_all(rt: HostRuntime) -> Result<(), Fail> {
     let mut plane = plane_of(rt.alloc(), 5, 2, &[1, 4, U, U, 9, 2, 3, U, U, 7])?;

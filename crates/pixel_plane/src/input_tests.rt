@@ -152,6 +152,24 @@ fn images_of_two_shapes_are_refused(rt: HostRuntime) -> Result<(), Fail> {
 }
 
 #[test]
+fn images_of_two_heights_are_refused(rt: HostRuntime) -> Result<(), Fail> {
+    let higher =
+        b"#XTENSION= 'IMAGE   '|BITPIX  = 8|NAXIS   = 2|NAXIS1  = 5|NAXIS2  = 2|PCOUNT  = 0|GCOUNT  = 1|END|#";
+    let outcome = read(
+        rt.alloc(),
+        FIRST,
+        higher,
+        &[1, 2, 3, 4, 5, 6, 7, 8, 9, 10],
+        &[],
+    )?;
+    assert_eq!(rt;
+        outcome.result.err(),
+        Some(Stop::Refused(Fault::ShapeDiffers))
+    );
+    Ok(())
+}
+
+#[test]
 fn cut_data_are_refused(rt: HostRuntime) -> Result<(), Fail> {
     let outcome = read(rt.alloc(), FIRST, EXTENSION, &[10, 20], &[])?;
     assert_eq!(rt; outcome.taken, 8642);

@@ -423,6 +423,35 @@ fn narrow_numbers_can_be_out_of_range(rt: HostRuntime) -> Result<(), Fail> {
     Ok(())
 }
 
+// Also of 32 bits, where the limits are those of a large image.
+#[test]
+fn numbers_of_32_bits_can_be_out_of_range(rt: HostRuntime) -> Result<(), Fail> {
+    let hdu = Hdu {
+        bitpix: 32,
+        data_bytes: 8,
+        ..WIDE
+    };
+    let limits = Limits {
+        pixels: 2,
+        least: -536_870_912,
+        greatest: 536_870_912,
+    };
+    let shape = check_within(&hdu, &limits)?;
+    // 2^29, and 2^29 + 1
+    let bytes = [0x20, 0, 0, 0, 0x20, 0, 0, 1];
+    let mut source = PlainSource::new(&bytes);
+    assert!(rt;
+        matches!(
+            read_plane_within(rt.alloc(), &mut source, &hdu, shape, &limits),
+            Err(PlaneStop::Fault(PlaneFault::PixelRange {
+                pixel: 1,
+                stored: 536_870_913
+            }))
+        )
+    );
+    Ok(())
+}
+
 // One pixel more than usual; and a larger image holds fewer values.
 #[test]
 fn wide_limits_take_large_images(rt: HostRuntime) -> Result<(), Fail> {

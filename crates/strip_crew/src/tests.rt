@@ -284,7 +284,7 @@ fn flood_hills<R: Threads + Sync, G: Gate>(rt: &R, alloc: Global, gate: &G) -> R
     Ok(flood_all(rt, alloc, &plane, Connect::Four, &cut, 2, gate).is_ok())
 }
 
-// `scripts/growths.py` runs this with each growth of memory refused in turn.
+// `tests/growths.py` runs this with each growth of memory refused in turn.
 #[test]
 fn no_strip_comes_to_the_gate_where_memory_is_refused(rt: HostRuntime) -> Result<(), Fail> {
     let gate = Counter::at_none();

@@ -14,7 +14,7 @@ use Rattle.fits_hdu.specs.Finding.{find_of, padded}
 use Rattle.fits_write.specs.declared.table.Column.{Column}
 use Rattle.fits_write.specs.Blocks.{filled, room_after}
 use Rattle.fits_write.specs.Columns.{row_size, table_bytes}
-use Rattle.fits_write.specs.Hdus.{header, table_cards, empty_primary, map_hdu, table_hdu}
+use Rattle.fits_write.specs.Hdus.{header, table_cards, empty_primary, map_hdu, table_hdu, named_hdu}
 use Rattle.fits_write.specs.CatalogueColumns.{catalogue_columns, cells_in_row, bytes_in_row}
 use Rattle.fits_write.specs.Rows.{table_cells}
 use Rattle.fits_write.specs.Laws.{WrittenTableIsReadBack, TableHasItsRowsBytes}
@@ -92,7 +92,7 @@ module _ (find_law : WrittenTableIsFound) (read_law : WrittenTableIsReadBack) (s
       ap₂ ◌/◌ (many_cells r connect choice) many_columns ∙ mul-div_cancel_left n (let some : 0 < cells_in_row = omega arith in some)
 
   table_is_there : table_hdu catalogue_columns cells ≡ the_header ++ the_data
-  unfolding table_hdu
+  unfolding table_hdu named_hdu table_cards
   table_is_there = ap (λ k. header (table_cards catalogue_columns k) ++ the_data) rows
 
   all_is : detected_hdus r connect choice ≡ empty_primary ++ (the_map ++ (the_header ++ the_data))

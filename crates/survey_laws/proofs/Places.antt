@@ -13,7 +13,7 @@ use Rattle.fits_hdu.specs.Finding.{padded, following, following_found, find_of}
 use Rattle.fits_write.specs.declared.table.Column.{Column}
 use Rattle.fits_write.specs.Blocks.{filled, room_after}
 use Rattle.fits_write.specs.Columns.{row_size, table_bytes, IsTable}
-use Rattle.fits_write.specs.Hdus.{header, primary_cards, empty_primary, map_cards, map_bytes, map_hdu, table_cards, table_hdu}
+use Rattle.fits_write.specs.Hdus.{header, primary_cards, empty_primary, map_cards, map_bytes, map_hdu, table_cards, table_hdu, named_hdu}
 use Rattle.survey_laws.specs.WrittenTables.{table_said, table_start}
 use Rattle.survey_laws.proofs.Headers.{header_found, not_below}
 use Rattle.survey_laws.proofs.Extensions.{hdu_said}
@@ -91,7 +91,7 @@ module _ (logicals : LogicalIsReadBack) (integers : IntegerIsReadBack) (texts : 
   front = empty_primary ++ map_hdu shape numbers
 
   behind_table : bytes ≡ front ++ (table_header columns cells ++ (filled 0 (table_bytes columns cells) ++ rest))
-  unfolding table_hdu
+  unfolding table_hdu named_hdu table_cards
   behind_table =
       sym (append_assoc empty_primary (map_hdu shape numbers) (table_hdu columns cells ++ rest))
       ∙ ap (λ l. front ++ l) (append_assoc (table_header columns cells) (filled 0 (table_bytes columns cells)) rest)

@@ -19,7 +19,7 @@ use Rattle.fits_write.specs.declared.table.Cell.{Cell}
 use Rattle.fits_write.specs.declared.table.Cell.TheVariants.{J, K}
 use Rattle.fits_write.specs.declared.table.Column.{Column}
 use Rattle.fits_write.specs.Columns.{cell_size, form_of, row_size, column_cards}
-use Rattle.fits_write.specs.Hdus.{primary_cards, map_cards, table_front, table_back, table_cards}
+use Rattle.fits_write.specs.Hdus.{primary_cards, map_cards, table_front, named_back, named_cards, table_cards}
 use Rattle.survey_laws.proofs.Cards.{nth}
 use Rattle.survey_laws.proofs.Headers.{IsHeader, bad_is, not_below}
 use Rattle.survey_laws.proofs.WrittenCards.{filled_up, Apart, Quiet, quiet, full_logical, full_integer, full_text, full_end, ends_at, goes_on_at}
@@ -311,7 +311,7 @@ table_cards_are : (columns : List Column) (rows : ℕ)
     → extension_cards (codes "BINTABLE") 8 (row_size columns) rows
     (written_integer (codes "TFIELDS ") (pos (length columns)) ∷ (column_cards 1 columns ++ written_text (codes "EXTNAME ") (codes "SOURCES") ∷ []))
     ≡ table_cards columns rows
-unfolding table_cards table_front table_back
+unfolding table_cards named_cards table_front named_back
 table_cards_are columns rows =
     ap (λ (l : List (List ℕ)).
     written_text (codes "XTENSION") (codes "BINTABLE")

@@ -7,6 +7,5 @@ pub mod Deletion
 pub mod Finding
 pub mod Listing
 pub mod Steps
-pub mod Memory
 pub mod Kept
 pub mod Worked

@@ -8,6 +8,4 @@ pub mod Rows
 pub mod Queries
 pub mod Turns
 pub mod Calls
-pub mod Keepers
-pub mod Laws
 pub mod Seen

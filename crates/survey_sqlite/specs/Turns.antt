@@ -1,5 +1,5 @@
 -- Model: what a call does to the tables that a connection shows, as far as it shows them; and what a call of a keeper over a file works on.
-use Rattle.std.specs.Prelude.{◌≡◌, ◌⊎◌, ℕ, ℤ, List, Option, Some, None, IsTrue}
+use Rattle.std.specs.Prelude.{◌≡◌, ◌⊎◌, ℕ, ℤ, Bool, List, Option, Some, None, IsTrue, is_some}
 use Rattle.sqlite.specs.Disk.{MoreFaults}
 use Rattle.sqlite.specs.State.{State, HasCleanDisk}
 use Rattle.survey_core.specs.Tables.{Table, cells_of_field, names_of}
@@ -22,6 +22,10 @@ ShowsCells old new field cells = HasCleanDisk new → IsAtRest old → cells ≡
 -- and these its fields
 abbrev pub ShowsNames : State → State → List (List ℕ) → Type 0
 ShowsNames old new fields = HasCleanDisk new → IsAtRest old → fields ≡ names_of (tables_of old)
+
+-- and whether it was there
+abbrev pub ShowsField : State → State → List ℕ → Bool → Type 0
+ShowsField old new field found = HasCleanDisk new → IsAtRest old → found ≡ is_some (cells_of_field field (tables_of old))
 
 -- ---- of a keeper that may have a connection
 

@@ -27,8 +27,8 @@ pub(crate) fn refused(faults: &mut u64, error: Error) -> Refused
     fault(faults)
 }
 
-/// Counts rows that can't be read, if not for want of memory.
-pub(crate) fn unread(faults: &mut u64, why: Unread) -> Refused
+// Counts rows that can't be read, if not for want of memory.
+fn unread(faults: &mut u64, why: Unread) -> Refused
     ensures later { faults.old ≤ faults.new }
     ensures rose { result ≡ Refused.Fault → Rose faults.old faults.new }
 {

@@ -7,7 +7,7 @@ ghost use Rattle.survey_core.specs.Catalogues.{most_rows};
 ghost use Rattle.survey_core.specs.Tables.{IsNumbered, put, without_field, cells_of_field, names_of};
 ghost use Rattle.survey_core.specs.Clauses.{Becomes, Stays, HasFault};
 ghost use Rattle.survey_sqlite.specs.Tables.{HasSource};
-ghost use Rattle.survey_sqlite.specs.Turns.{Turns, ShowsCells, ShowsNames, IsWorkedOn, Worked, TurnedTo};
+ghost use Rattle.survey_sqlite.specs.Turns.{Turns, ShowsCells, ShowsNames, ShowsField, IsWorkedOn, Worked, TurnedTo};
 ghost use Rattle.survey_sqlite.specs.Calls.{CountsFound, Untouched};
 ghost use Rattle.survey_sqlite.specs.Steps.{AreRising};
 ghost use Rattle.survey_sqlite.specs.Blobs.{blob_cells};
@@ -187,6 +187,8 @@ impl Keeper for FileKeeper<'_> {
         ensures cause { HasFault (file_faults self.old) (file_faults self.new) result }
         // As far as the file shows its tables, they become these.
         ensures turned { OnOk result (TurnedTo file_state self.old.conn self.new.conn (without_field field)) }
+        // So it tells whether the field was there.
+        ensures shown { IfOk result (λ found. Worked file_state self.old.conn self.new.conn (λ s t. ShowsField s t field found)) }
     {
         match self.take_out(&field) {
             Ok(count) => Ok(count == 1),

@@ -3,7 +3,7 @@ ghost use Rattle.std.specs.Prelude.{◌≡◌, ◌*◌, length, IfOk};
 ghost use Rattle.fits_write.specs.CatalogueColumns.{cells_in_row};
 ghost use Rattle.survey_core.specs.Tables.{IsNumbered};
 
-use crate::{FileKeeper, SqlKeeper};
+use crate::FileKeeper;
 use fits_write::{CELLS_IN_ROW, NUMBER};
 use std::alloc::{AllocError, Global};
 use std::fs;
@@ -120,8 +120,18 @@ fn keeps_many_rows<K: Keeper, R: Abort>(rt: &R, alloc: Global, keeper: &mut K) -
 #[test]
 fn many_rows(rt: HostRuntime) -> Result<(), Fail> {
     let alloc = rt.alloc();
-    keeps_many_rows(&rt, alloc, &mut MemKeeper::new(alloc, &[]))?;
-    keeps_many_rows(&rt, alloc, &mut SqlKeeper::new())
+    keeps_many_rows(&rt, alloc, &mut MemKeeper::new(alloc, &[]))
+}
+
+#[test]
+fn many_rows_in_a_file(rt: HostRuntime) -> Result<(), Fail> {
+    let _ = fs::remove_dir_all(&rt, "survey_sqlite_many");
+    fs::create_dir(&rt, "survey_sqlite_many")?;
+    let mut keeper = FileKeeper::at(&rt, "survey_sqlite_many/s.db");
+    keeps_many_rows(&rt, rt.alloc(), &mut keeper)?;
+    keeper.close();
+    fs::remove_dir_all(&rt, "survey_sqlite_many")?;
+    Ok(())
 }
 
 // The field's two rows are there, and can be taken out once.

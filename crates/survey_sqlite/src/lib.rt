@@ -1,21 +1,18 @@
-//! The tables of a survey in a database. The tests are those of `survey_core` too: sessions, and keepers call by call, over tables in memory,
-//! in a database and in a file, and databases that another program wrote.
+//! The tables of a survey in a database. The tests are those of `survey_core` too: sessions, and keepers call by call, over tables in memory
+//! and in a file, and databases that another program wrote.
 #![tactic(auto)]
 
 mod blob;
 mod faults;
 mod file_keeper;
-mod in_memory;
 mod reading;
 mod schema;
 mod shown;
-mod sql_keeper;
 mod statements;
 
 pub use blob::{blob_of, cells_in_blob};
 pub use file_keeper::FileKeeper;
 pub use reading::{Unread, read_cells, read_names};
-pub use sql_keeper::SqlKeeper;
 pub use statements::make_table;
 
 #[cfg(test)]

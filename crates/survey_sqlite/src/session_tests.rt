@@ -1,9 +1,9 @@
-//! Sessions over tables in memory, in a database and in a file.
+//! Sessions over tables in memory and in a file.
 
+use crate::FileKeeper;
 use crate::keeper_tests::{count_names, field};
 use crate::sample::{MAP, NAMED_MAP, Sample};
 use crate::sessions::{Row, compare};
-use crate::{FileKeeper, SqlKeeper};
 use fits_write::{BYTES_IN_ROW, CELLS_IN_ROW, FLUX, NUMBER, XCEN, YCEN};
 use std::alloc::Global;
 use std::fs;
@@ -198,10 +198,10 @@ const ADDS: Row<'static> = Row {
     notes: b"",
 };
 
-// Each keeper is a new one.
+// Over catalogues whose maps have a name, and over such as have none. Each keeper is a new one.
 fn compare_both<R: Abort>(rt: &R, alloc: Global, row: Row) -> Result<(), Fail> {
     compare(rt, alloc, &NAMED_MAP, &mut MemKeeper::new(alloc, &[]), row)?;
-    compare(rt, alloc, &MAP, &mut SqlKeeper::new(), row)
+    compare(rt, alloc, &MAP, &mut MemKeeper::new(alloc, &[]), row)
 }
 
 #[test]
@@ -306,19 +306,28 @@ fn has_cells<K: Keeper>(alloc: Global, keeper: &mut K, field: Field, cells: &[i6
     matches!(&kept, Ok(Some(kept)) if kept.as_slice() == cells)
 }
 
-#[test]
-fn an_add_replaces(rt: HostRuntime) -> Result<(), Fail> {
-    let alloc = rt.alloc();
-    let mut keeper = SqlKeeper::new();
-    compare(&rt, alloc, &MAP, &mut keeper, ADDS)?;
+// The second of two catalogues stands in the first one's place.
+fn replaces<K: Keeper, R: Abort>(rt: &R, alloc: Global, keeper: &mut K) -> Result<(), Fail> {
+    compare(rt, alloc, &MAP, keeper, ADDS)?;
     let row = Row {
         samples: &[SECOND],
         ..ADDS
     };
-    compare(&rt, alloc, &MAP, &mut keeper, row)?;
-    let a = field(&rt, "A");
-    assert!(rt; has_cells(alloc, &mut keeper, a, &cells_of_second()));
-    assert_eq!(rt; count_names(alloc, &mut keeper), Some(1));
+    compare(rt, alloc, &MAP, keeper, row)?;
+    let a = field(rt, "A");
+    assert!(rt; has_cells(alloc, keeper, a, &cells_of_second()));
+    assert_eq!(rt; count_names(alloc, keeper), Some(1));
+    Ok(())
+}
+
+#[test]
+fn an_add_replaces(rt: HostRuntime) -> Result<(), Fail> {
+    let _ = fs::remove_dir_all(&rt, "survey_sqlite_adds");
+    fs::create_dir(&rt, "survey_sqlite_adds")?;
+    let mut keeper = FileKeeper::at(&rt, "survey_sqlite_adds/s.db");
+    replaces(&rt, rt.alloc(), &mut keeper)?;
+    keeper.close();
+    fs::remove_dir_all(&rt, "survey_sqlite_adds")?;
     Ok(())
 }
 

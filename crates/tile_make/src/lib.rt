@@ -6,6 +6,8 @@ mod making;
 mod opening;
 mod placing;
 mod rows;
+#[cfg(test)]
+mod tests;
 
 pub use making::{TileStop, make_tile};
 pub use placing::TilePlace;

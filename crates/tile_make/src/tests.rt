@@ -1,0 +1,114 @@
+//! Tiles of an image of one row.
+
+ghost use Rattle.std.specs.Prelude.{◌^◌, IfOk, IfSome};
+ghost use Rattle.comp_tree.specs.Limits.{IsWithin};
+ghost use Rattle.comp_tree.specs.Raster.{HasValuesInHalfRange};
+
+use super::*;
+use comp_tree::{Plane, Shape};
+use orders::{Order, read_order};
+use source_pick::Choice;
+use std::alloc::Global;
+use std::test::Fail;
+use std::thread::Threads;
+use strip_crew::OpenGate;
+use tile_join::{Frame, TileCatalogue};
+
+const CHOICE: Choice = Choice {
+    threshold: 3,
+    min_area: 1,
+    min_flux: 0,
+    contrast: 0,
+};
+
+// An image of one row, of these small values.
+fn row_of(alloc: Global, values: &[i64]) -> Result<Plane, Fail>
+    ensures { IfOk result (λ plane. HasValuesInHalfRange plane.values) }
+{
+    let Ok(width) = u32::try_from(values.len()) else {
+        return Err(Fail::from("a width"));
+    };
+    let shape = Shape::of(width, 1).ok_or("a shape")?;
+    let mut pixels = Vec::new(alloc);
+    for value in values {
+        let pixel = pixel_of(*value)?;
+        pixels.push(pixel)?;
+    }
+    match Plane::of(alloc, shape, &pixels)? {
+        Some(plane) => Ok(plane),
+        None => Err(Fail::from("a plane of these values")),
+    }
+}
+
+// A pixel of a small value.
+fn pixel_of(value: i64) -> Result<Option<i64>, Fail>
+    ensures { IfOk result (λ pixel. IfSome pixel (λ v. IsWithin (2 ^ 29) v)) }
+{
+    if value < -99 || value > 99 {
+        return Err(Fail::from("a small value"));
+    }
+    Ok(Some(value))
+}
+
+// So many columns of the first row, from this one on.
+fn columns(left: u32, count: u32) -> Result<Frame, Fail> {
+    let shape = Shape::of(count, 1).ok_or("a shape")?;
+    Ok(Frame {
+        left,
+        top: 0,
+        shape,
+    })
+}
+
+// What the window whose first pixel stands in column `left` of an image of eight tells for these columns.
+fn tile_at<R: Threads + Sync>(
+    rt: &R,
+    alloc: Global,
+    left: u32,
+    values: &[i64],
+    core: Frame,
+) -> Result<Result<TileCatalogue, TileStop>, Fail> {
+    let place = TilePlace {
+        whole: Shape::of(8, 1).ok_or("a shape")?,
+        left,
+        top: 0,
+        core,
+    };
+    let image = row_of(alloc, values)?;
+    let Ok(order) = read_order(&["tree"]) else {
+        return Err(Fail::from("an order"));
+    };
+    Ok(make_tile(rt, alloc, image, &order, &CHOICE, &place, &OpenGate))
+}
+
+// Of the image 0 5 0 0 5 5 0 5, the columns from 2 on.
+#[test]
+fn a_window_tells_its_core(rt: HostRuntime) -> Result<(), Fail> {
+    let tile = tile_at(&rt, rt.alloc(), 2, &[0, 0, 5, 5, 0, 5], columns(4, 4)?)?;
+    let Ok(tile) = tile else {
+        return Err(Fail::from("a tile"));
+    };
+    assert!(rt; tile.open.is_empty());
+    assert_eq!(rt; tile.map.as_slice(), [0, 0, 1, 1, 0, 2].as_slice());
+    let firsts = tile.rows.iter().map(|row| row.xfirst);
+    assert!(rt; firsts.eq([5, 8]));
+    Ok(())
+}
+
+// Its first pixel belongs to a component that may go on beyond the window.
+#[test]
+fn a_component_at_the_windows_edge_is_open(rt: HostRuntime) -> Result<(), Fail> {
+    let tile = tile_at(&rt, rt.alloc(), 5, &[5, 0, 5], columns(5, 3)?)?;
+    let Ok(tile) = tile else {
+        return Err(Fail::from("a tile"));
+    };
+    assert!(rt; !tile.open.is_empty());
+    Ok(())
+}
+
+#[test]
+fn a_core_reaches_out_of_its_window(rt: HostRuntime) -> Result<(), Fail> {
+    let tile = tile_at(&rt, rt.alloc(), 5, &[5, 0, 5], columns(4, 3)?)?;
+    assert!(rt; matches!(tile, Err(TileStop::Misplaced)));
+    Ok(())
+}
