@@ -21,11 +21,11 @@ pub use columns::{
     measured_columns,
 };
 pub use fault::WriteFault;
-pub use map::put_map;
+pub use map::{map_cards, put_map};
 pub use plane::put_plane;
-pub use primary::put_empty_primary;
+pub use primary::{primary_cards, put_empty_primary};
 pub use rows::add_row;
-pub use table::{Cell, Column, put_named_table, put_table};
+pub use table::{Cell, Column, column_cards, named_back, put_named_table, put_table, table_front};
 
 #[cfg(test)]
 mod tests;

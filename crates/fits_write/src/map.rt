@@ -80,8 +80,9 @@ fn add_numbers<O: Sink>(sink: &mut O, blocks: &mut Blocks, numbers: &[u32]) -> R
     blocks.add(sink, bytes)
 }
 
+/// The cards of a map's header.
 #[tactic(auto, unfolding(crate::specs::Hdus::map_cards))]
-fn map_cards(shape: Shape) -> [Card; 9]
+pub fn map_cards(shape: Shape) -> [Card; 9]
     ensures { result ≡ map_cards shape }
 {
     [

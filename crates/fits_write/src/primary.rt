@@ -20,8 +20,9 @@ pub fn put_empty_primary<O: Sink>(sink: &mut O) -> Result<(), WriteFault>
     }
 }
 
+/// The cards of a primary header without data.
 #[tactic(auto, unfolding(crate::specs::Hdus::primary_cards))]
-fn primary_cards() -> [Card; 5]
+pub fn primary_cards() -> [Card; 5]
     ensures { result ≡ primary_cards }
 {
     [

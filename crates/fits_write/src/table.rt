@@ -109,9 +109,9 @@ fn put_table_header<O: Sink>(
     blocks.fill(sink, b' ')
 }
 
-// The cards before those of the columns.
+/// The cards of a table's header before those of its columns.
 #[tactic(auto, unfolding(crate::specs::Hdus::table_front))]
-fn table_front(columns: &[Column], rows: usize) -> [Card; 8]
+pub fn table_front(columns: &[Column], rows: usize) -> [Card; 8]
     requires few_columns { length columns.now ≤ 99 }
     requires few_rows { rows ≤ 2147483647 }
     ensures { result ≡ table_front columns.now rows }
@@ -128,9 +128,9 @@ fn table_front(columns: &[Column], rows: usize) -> [Card; 8]
     ]
 }
 
-// The cards behind those of the columns.
+/// The cards of a table's header behind those of its columns. The name is printing ASCII without a quote.
 #[tactic(auto, unfolding(crate::specs::Hdus::named_back))]
-fn named_back(name: &[u8]) -> [Card; 2]
+pub fn named_back(name: &[u8]) -> [Card; 2]
     requires short { length name.now ≤ 68 }
     requires plain { IsTrue (list_all is_plain name.now) }
     ensures { result ≡ named_back name.now }
@@ -177,8 +177,8 @@ fn add_columns<O: Sink>(sink: &mut O, blocks: &mut Blocks, columns: &[Column]) -
     Ok(())
 }
 
-// The cards of the column with this number.
-fn column_cards(number: usize, column: &Column) -> [Card; 2]
+/// The cards of the column with this number, from 1: its name and its form (FITS Standard 4.0, section 7.3.1).
+pub fn column_cards(number: usize, column: &Column) -> [Card; 2]
     requires few { number ≤ 99 }
     requires plain { IsTrue (list_all is_plain column.now.name) }
     ensures { result ≡ column_cards number (column.now ∷ []) }
