@@ -6,8 +6,8 @@ usage: python3 tests/compare.py MAXDETECT MAXSURVEY [--maxwide PROGRAM] [--cases
 Case k of a seed is always the same. Images have at most 36 pixels; headers and words are mostly in order, and often
 damaged. Status, output, notes and the number of bytes taken from the input are compared, and of sessions of maxsurvey
 over one file the tables that are left, by a session after them. With --maxwide each run of maxdetect is one of that
-program too. A difference is printed with the command, a file with the input's bytes, and what both answered; the exit
-status is then 1.
+program too, and images are cut into tiles and joined again. A difference is printed with the command, a file with the
+input's bytes, and what both answered; the exit status is then 1.
 """
 import argparse
 import concurrent.futures
@@ -273,6 +273,68 @@ def random_session(rng):
     return damaged_words(rng, words) if rng.random() < 0.1 else words, data
 
 
+# ---- an image in tiles
+
+
+def plain_image(width, values):
+    """The file of an image of 16 bits, in which None stands for no value."""
+    cards = [("SIMPLE", True), ("BITPIX", 16), ("NAXIS", 2), ("NAXIS1", width), ("NAXIS2", len(values) // width)]
+    stored = [-(2**15) if value is None else value for value in values]
+    return hdu_bytes([*cards, ("BLANK", -(2**15))], b"".join(value.to_bytes(2, "big", signed=True) for value in stored))
+
+
+def random_cuts(rng, side, mesh):
+    """Stretches that make up a side, each with one around it that begins on the mesh."""
+    cuts = sorted({0, side, *(rng.randint(0, side) for _ in range(rng.choice([0, 0, 1, 1, 2])))})
+    for begin, end in zip(cuts, cuts[1:]):
+        first = max(begin - rng.choice([0, 1, 2, 6, 9]), 0)
+        yield begin, end, first // max(mesh, 1) * max(mesh, 1), min(end + rng.choice([0, 1, 2, 6, 9]), side)
+
+
+def random_tiles(rng, width, height, mesh):
+    """The words of tiles that make up an image, now and then without one of them or with two that overlap."""
+    columns, rows = list(random_cuts(rng, width, mesh)), list(random_cuts(rng, height, mesh))
+    places = []
+    for top, bottom, above, below in rows:
+        for left, right, before, behind in columns:
+            window = [before, above, behind - before, below - above]
+            places.append((window, [left, top, right - left, bottom - top]))
+    if rng.random() < 0.1:
+        places += [rng.choice(places)]
+    if rng.random() < 0.1:
+        places.remove(rng.choice(places))
+    rng.shuffle(places)
+    return places
+
+
+def tile_runs(rng, program, folder):
+    """Runs of maxwide over the tiles of an image, and one that joins them; where this gives an answer, the image too."""
+    width, height, mesh = rng.randint(1, 12), rng.randint(1, 9), rng.choice([0, 0, 0, 1, 2, 3])
+    few = rng.choice([2, 3, 6, 40])
+    values = [None if rng.random() < 0.05 else rng.randrange(few) - few // 3 for _ in range(width * height)]
+    options = dict(option_words(rng, "detect"), **{"--hdu": "0", "--mesh": str(mesh)})
+    options["--threshold"] = str(rng.randint(1, few))
+    detect = ["detect", *(word for pair in options.items() for word in pair)]
+    files = []
+    for window, core in random_tiles(rng, width, height, mesh):
+        left, top, columns, rows = window
+        places = ["--whole", width, height, "--window", *window, "--core", *core]
+        words = ["tile", *map(str, places), *detect]
+        words = damaged_words(rng, words) if rng.random() < 0.05 else words
+        seen = [values[y * width + x] for y in range(top, top + rows) for x in range(left, left + columns)]
+        data = plain_image(columns, seen)
+        files.append(run(program, words, data, folder))
+        yield words, data, model.wide_answer(words, data), files[-1]
+    data = b"".join(found.output for found in files)
+    data = damaged(rng, data) if data and rng.random() < 0.15 else data
+    joined = run(program, ["join"], data, folder)
+    yield ["join"], data, model.wide_answer(["join"], data), joined
+    if joined.status == 0:
+        data = plain_image(width, values)
+        found = run(program, detect, data, folder)
+        yield detect, data, model.Answer(0, joined.output, "", found.taken), found
+
+
 # ---- runs
 
 
@@ -292,7 +354,7 @@ def detection_runs(rng, programs, folder):
     data = random_file(rng, [0, 1, 1, 1, 2] if words[:1] == ["measure"] else [0, 0, 1, 1, 2])
     yield words, data, model.answer(words, data), run(programs[0], words, data, folder)
     for program in programs[2:]:
-        yield words, data, model.answer(words, data, model.WIDE_PIXELS), run(program, words, data, folder)
+        yield words, data, model.wide_answer(words, data), run(program, words, data, folder)
 
 
 def survey_runs(rng, programs, folder):
@@ -311,8 +373,13 @@ def survey_runs(rng, programs, folder):
 def case(number, seed, programs, folder):
     """The first difference of a case, if there is one."""
     rng = random.Random(f"{seed} {number}")
-    runs = survey_runs if rng.random() < 0.15 else detection_runs
-    for words, data, wanted, given in runs(rng, programs, folder):
+    chance = rng.random()
+    runs = survey_runs if chance < 0.15 else detection_runs
+    if chance > 0.9 and len(programs) > 2:
+        found = tile_runs(rng, programs[2], folder)
+    else:
+        found = runs(rng, programs, folder)
+    for words, data, wanted, given in found:
         if wanted != given:
             return number, words, data, wanted, given
     return None

@@ -2,9 +2,9 @@
 
 Nothing here is fast, and nothing is shared with the programs, so it serves for images of some dozens of pixels, as a
 check from outside: `tests/compare.py` runs the programs beside it. `answer(words, data)` is for maxdetect,
-`answer(words, data, WIDE_PIXELS)` for maxwide, and `session(words, data, tables)` for maxsurvey.
+`wide_answer(words, data)` for maxwide, and `session(words, data, tables)` for maxsurvey.
 """
-from .headers import WIDE_PIXELS
 from .programs import Answer, answer, session
+from .tiles import wide_answer
 
-__all__ = ["WIDE_PIXELS", "Answer", "answer", "session"]
+__all__ = ["Answer", "answer", "session", "wide_answer"]

@@ -60,12 +60,16 @@ def plane_bytes(image: Image) -> bytes:
 
 
 def map_bytes(image: Image, numbers: List[int]) -> bytes:
-    cards = [("XTENSION", "IMAGE"), ("BITPIX", 32), ("NAXIS", 2), ("NAXIS1", image.width), ("NAXIS2", image.height)]
+    return map_of_numbers(image.width, image.height, numbers)
+
+
+def map_of_numbers(width: int, height: int, numbers: List[int]) -> bytes:
+    cards = [("XTENSION", "IMAGE"), ("BITPIX", 32), ("NAXIS", 2), ("NAXIS1", width), ("NAXIS2", height)]
     cards += [("PCOUNT", 0), ("GCOUNT", 1), ("EXTNAME", "SEGMENT")]
     return hdu_bytes(cards, struct.pack(f">{len(numbers)}i", *numbers))
 
 
-def table_bytes(columns: List[str], rows: List[Cells]) -> bytes:
+def table_bytes(columns: List[str], rows: List[Cells], name: str = "SOURCES") -> bytes:
     names, forms = zip(*(column.split(":") for column in columns))
     form = ">" + "".join({"J": "i", "K": "q"}[each] for each in forms)
     cards = [
@@ -78,7 +82,7 @@ def table_bytes(columns: List[str], rows: List[Cells]) -> bytes:
     cards += [("PCOUNT", 0), ("GCOUNT", 1), ("TFIELDS", len(columns))]
     for number, (name, each) in enumerate(zip(names, forms), 1):
         cards += [(f"TTYPE{number}", name), (f"TFORM{number}", each)]
-    return hdu_bytes([*cards, ("EXTNAME", "SOURCES")], b"".join(struct.pack(form, *row) for row in rows))
+    return hdu_bytes([*cards, ("EXTNAME", name)], b"".join(struct.pack(form, *row) for row in rows))
 
 
 def detection_bytes(image: Image, sources: List[Node], columns: List[str], rows: List[Cells]) -> bytes:

@@ -10,3 +10,5 @@ mod Listed
 mod Images
 mod InOrder
 mod Whole
+mod Sizes
+pub mod Exported

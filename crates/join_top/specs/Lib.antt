@@ -1,0 +1,2 @@
+pub mod AllBytes
+pub mod JoinNotes
