@@ -280,7 +280,9 @@ def plain_image(width, values):
     """The file of an image of 16 bits, in which None stands for no value."""
     cards = [("SIMPLE", True), ("BITPIX", 16), ("NAXIS", 2), ("NAXIS1", width), ("NAXIS2", len(values) // width)]
     stored = [-(2**15) if value is None else value for value in values]
-    return hdu_bytes([*cards, ("BLANK", -(2**15))], b"".join(value.to_bytes(2, "big", signed=True) for value in stored))
+    return hdu_bytes(
+        [*cards, ("BLANK", -(2**15))], b"".join(value.to_bytes(2, "big", signed=True) for value in stored)
+    )
 
 
 def random_cuts(rng, side, mesh):
@@ -308,7 +310,7 @@ def random_tiles(rng, width, height, mesh):
 
 
 def tile_runs(rng, program, folder):
-    """Runs of maxwide over the tiles of an image, and one that joins them; where this gives an answer, the image too."""
+    """Runs of maxwide over the tiles of an image, one that joins them, and the whole where this gives an answer."""
     width, height, mesh = rng.randint(1, 12), rng.randint(1, 9), rng.choice([0, 0, 0, 1, 2, 3])
     few = rng.choice([2, 3, 6, 40])
     values = [None if rng.random() < 0.05 else rng.randrange(few) - few // 3 for _ in range(width * height)]

@@ -1,4 +1,5 @@
-"""What `maxwide tile` and `maxwide join` answer: a tile by the definitions of its window's image, and the whole from tiles.
+"""What `maxwide tile` and `maxwide join` answer: a tile by the definitions of its window's image, and the whole from
+tiles.
 """
 import struct
 from typing import Dict, List, NamedTuple, Optional, Tuple, Union
