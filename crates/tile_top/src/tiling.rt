@@ -7,9 +7,9 @@ ghost use Rattle.comp_tree.specs.Raster.{HasValuesInHalfRange};
 ghost use Rattle.orders.specs.Words.{HasLimits};
 ghost use Rattle.pixel_plane.specs.InputFaults.{IsCutStop};
 ghost use Rattle.run_relation.specs.RunEnds.{IsMadeOf, EndBytes, EndCause};
-ghost use Rattle.run_relation.specs.Headline.{Tells, use_of_input, use_of_output, IsRunOf};
+ghost use Rattle.run_relation.specs.Headline.{Tells, use_of_input, use_of_output, IsUnused, IsRunOf};
 ghost use Rattle.tile_make.specs.Placed.{is_tile_place};
-ghost use Rattle.tile_file.specs.TileFiles.{IsWritableFile, file_bytes};
+ghost use Rattle.tile_file.specs.TileFiles.{CanBePut, file_bytes};
 ghost use Rattle.tile_top.specs.TileAnswers.{tile_output, asked_for_tile, asked_of_tile, IsTileOrder};
 
 use comp_tree::Plane;
@@ -36,7 +36,7 @@ fn make_file<R: Threads + Sync, G: Gate>(
     requires order { IsTileOrder order.now }
     requires shape { image.shape ≡ order.now.window }
     requires storable { HasValuesInHalfRange image.values }
-    ensures writable { IfOk result IsWritableFile }
+    ensures writable { IfOk result CanBePut }
     ensures bytes { IfOk result (λ file. file_bytes file ≡ tile_output order.now image) }
 {
     match make_tile(
@@ -66,7 +66,7 @@ fn read_and_make<R: Threads + Sync, S: Source, G: Gate>(
     requires order { IsTileOrder order.now }
     ensures told { (bytes : List ℕ) → Tells (asked_for_tile limits.now order.now) (S.left input.old) bytes →
         IsMadeOf (asked_for_tile limits.now order.now) bytes (S.left input.old) (S.left input.new) file_bytes result }
-    ensures writable { IfOk result IsWritableFile }
+    ensures writable { IfOk result CanBePut }
     ensures reads { IsErrOf result Stop.ReadFault → Rose (S.faults input.old) (S.faults input.new) }
     ensures ended { IfErr result (λ stop. IsCutStop stop → IsTrue (S.ended input.new)) }
 {
@@ -85,7 +85,7 @@ fn read_and_make<R: Threads + Sync, S: Source, G: Gate>(
 
 // Writes a tile's file, and hands all of it on.
 fn write_file<O: Sink>(output: &mut O, file: &TileFile) -> Result<(), WriteFault>
-    requires { IsWritableFile file.now }
+    requires { CanBePut file.now }
     ensures bytes { PutAppends (O.written output.old) (O.written output.new) result (file_bytes file.now) }
     ensures settled { OnOk result (IsTrue (O.settled output.new)) }
     ensures cause { HasCause (O.faults output.old) (O.faults output.new) result }
