@@ -1,5 +1,5 @@
 -- The fifth card of a table's header says how many rows it has.
-use Rattle.std.proofs.Common.{◌≡◌, ◌∙◌, ℕ, ◌+◌, ◌-◌, ◌/◌, ◌^◌, ◌<◌, ◌≤◌, List, [], ◌∷◌, ◌++◌, length, replicate, take, drop, refl, sym, ap, arith, ℤ, pos, Option, Some, true}
+use Rattle.std.proofs.Common.{◌≡◌, ◌∙◌, ℕ, ◌+◌, ◌-◌, ◌*◌, ◌/◌, ◌^◌, ◌<◌, ◌≤◌, List, [], ◌∷◌, ◌++◌, length, replicate, take, drop, refl, sym, ap, arith, ℤ, pos, Option, Some, true}
 use Rattle.std.proofs.Common.{append_assoc, length-append, cond, None, rules}
 use Rattle.std.specs.Prelude.{codes}
 use Rattle.std.specs.Fmt.{decimal, signed_decimal}
@@ -22,7 +22,7 @@ use Rattle.fits_back.specs.Announced.{announced}
 -- ---- a card has 80 bytes
 
 filled_out : (width : ℕ) (bytes : List ℕ) → length bytes ≤ width → length (left_justified width bytes) ≡ width
-filled_out width bytes short = omega (arith, short, length-append bytes (spaces (width - length bytes)), length-replicate (width - length bytes) 32)
+filled_out width bytes short = omega (arith, short, length-append bytes (spaces (width - length bytes)), length-replicate {A = ℕ} (width - length bytes) 32)
 
 pub integer_long : (name : List ℕ) (n : ℕ) → length name ≡ 8 → n ≤ 2147483647 → length (written_integer name (pos n)) ≡ 80
 unfolding written_integer
@@ -30,7 +30,7 @@ integer_long name n eight small =
     let digits : List ℕ = decimal n in
     let few : length digits ≤ 10 = length-decimal-le 10 n (omega arith) (omega (arith, small)) (omega (arith, small)) in
     let field : List ℕ = spaces (20 - length digits) ++ digits in
-    let twenty : length field ≡ 20 = omega (arith, few, length-append (spaces (20 - length digits)) digits, length-replicate (20 - length digits) 32) in
+    let twenty : length field ≡ 20 = omega (arith, few, length-append (spaces (20 - length digits)) digits, length-replicate {A = ℕ} (20 - length digits) 32) in
     let thirty : length (name ++ codes "= " ++ field) ≡ 30 =
     omega (arith, eight, twenty, length-append (name ++ codes "= ") field, length-append name (codes "= ")) in
     filled_out 80 (name ++ codes "= " ++ field) (omega (arith, thirty))

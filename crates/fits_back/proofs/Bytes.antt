@@ -31,7 +31,12 @@ pub bytes-concat : {X : Type 0} (f : X → List ℕ) (xs : List X) → ((x : X) 
 bytes-concat f [] each k = omega arith
 bytes-concat f (x ∷ xs) each k = bytes-append (f x) (concat (map f xs)) (each x) (bytes-concat f xs each) k
 
--- what stands behind the front of bytes are bytes
+-- the front of bytes, and what stands behind it, are bytes
+pub bytes_before : (front rest : List ℕ) → AreBytes (front ++ rest) → AreBytes front
+bytes_before [] rest are k = omega arith
+bytes_before (x ∷ front) rest are zero = are 0
+bytes_before (x ∷ front) rest are (suc k) = bytes_before front rest (λ j. are (suc j)) k
+
 pub bytes_behind : (front rest : List ℕ) → AreBytes (front ++ rest) → AreBytes rest
 bytes_behind [] rest are k = are k
 bytes_behind (x ∷ front) rest are k = bytes_behind front rest (λ j. are (suc j)) k

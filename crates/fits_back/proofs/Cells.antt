@@ -8,7 +8,7 @@ use Rattle.fits_write.specs.Blocks.{filled, room_after}
 use Rattle.std.proofs.Math.Facts.{sfits_to_z, Fits-of_lt}
 use Rattle.std.proofs.Math.Nat.{mul-mod_right, mul-div_cancel_left, add-mod_left, lt-div-mul-add, mul-le-mul_right}
 use Rattle.std.proofs.lemmas.Int.{of_z-to_z}
-use Rattle.std.proofs.lemmas.List.Elements.{All-append, All-nil}
+use Rattle.std.proofs.lemmas.List.Elements.{All-append, All-cons}
 use Rattle.std.proofs.lemmas.List.Sums.{sum_by-cons}
 use Rattle.std.specs.List.{concat, list_all, range_with_len}
 use Rattle.std.specs.Int.{cast_signed, cast_unsigned}
@@ -24,7 +24,7 @@ use Rattle.fits_write.specs.Laws.{WrittenTableIsReadBack, TableHasItsRowsBytes}
 use Rattle.fits_write.proofs.Exported.{length-row_cells, table_cells-more}
 use Rattle.fits_back.specs.Fronts.{BeginsWithNoData}
 use Rattle.fits_back.specs.TableRows.{AreRows, BeginsWithNoRows}
-use Rattle.fits_back.proofs.Bytes.{AreBytes, bytes-take, bytes-drop, bytes-concat, bytes_of_number, number_tells, parts_same}
+use Rattle.fits_back.proofs.Bytes.{AreBytes, bytes-take, bytes-drop, bytes-concat, bytes_before, bytes_of_number, number_tells, parts_same}
 
 -- the next row behind those that are read
 pub row_read : (columns : List Column) (bytes : List ℕ) (row size : ℕ) (cells more : List ℤ) → size ≡ row_size columns → cells ≡ table_cells columns bytes row
@@ -60,7 +60,8 @@ length-table_cells columns bytes (suc n) =
 cells_fit : (columns : List Column) (bytes : List ℕ) (n k : ℕ) → 0 < length columns → AreBytes bytes → k < length (table_cells columns bytes n)
     → FitsCell (cell_at columns k) (number_at (table_cells columns bytes n) k)
 cells_fit columns bytes zero k some are within = absurd (omega arith)
-cells_fit columns bytes (suc n) k some are within = by (cases_lt k (length columns))
+cells_fit columns bytes (suc n) k some are within =
+    by (λ j inside. cells_fit columns (drop (row_size columns) bytes) n j some (bytes-drop (row_size columns) bytes are) inside) (cases_lt k (length columns))
   where
     size : ℕ
     size = row_size columns
@@ -71,21 +72,22 @@ cells_fit columns bytes (suc n) k some are within = by (cases_lt k (length colum
     others : List ℤ
     others = table_cells columns (drop size bytes) n
 
-    by : (k < length columns) ⊎ (length columns ≤ k) → FitsCell (cell_at columns k) (number_at (row ++ others) k)
-    by (inl front) =
+    by : ((j : ℕ) → j < length others → FitsCell (cell_at columns j) (number_at others j)) → (k < length columns) ⊎ (length columns ≤ k)
+        → FitsCell (cell_at columns k) (number_at (row ++ others) k)
+    by later (inl front) =
         let long : length row ≡ length columns = length-row_cells columns (take size bytes) in
         subst₂ (λ i z. FitsCell (get_or columns i (record { name = []; cell = J })).cell z) (sym (mod-eq_of_lt front))
         (sym (get_or_append_left row others (pos 0) k (omega (arith, front, long))))
         (row_fits columns (take size bytes) (record { name = []; cell = J }) k (bytes-take size bytes are) front)
-    by (inr behind) =
+    by later (inr behind) =
         let long : length row ≡ length columns = length-row_cells columns (take size bytes) in
         let j = k - length columns in
         let place : length columns + j ≡ k = omega (arith, behind) in
         let column : j % length columns ≡ k % length columns = sym (add-mod_left (length columns) j) ∙ ap (λ i. i % length columns) place in
         let here : number_at others j ≡ number_at (row ++ others) k =
-        ap (λ (m : ℕ). number_at others (k - m)) (sym long) ∙ sym (get_or-append_right row others (pos 0) (length row) k refl (omega (arith, behind, long))) in
+        ap (λ (m : ℕ). number_at others (k - m)) (sym long) ∙ sym (get_or-append_right row others (length row) k (pos 0) refl (omega (arith, behind, long))) in
         subst₂ (λ i z. FitsCell (get_or columns i (record { name = []; cell = J })).cell z) column here
-        (cells_fit columns (drop size bytes) n j some (bytes-drop size bytes are) (omega (arith, within, length-append row others, long, place)))
+        (later j (omega (arith, within, length-append row others, long, place)))
 
 table_rows : (columns : List Column) (bytes : List ℕ) (n : ℕ) → 0 < length columns → length (table_cells columns bytes n) / length columns ≡ n
 table_rows columns bytes n some = ap (λ (k : ℕ). k / length columns) (length-table_cells columns bytes n) ∙ mul-div_cancel_left n some
@@ -115,12 +117,9 @@ cell_is_whole K bytes are = sfits_to_z {w = w64} (Fits-of_lt {w = w64} (big_from
 
 row_is_whole : (columns : List Column) (bytes : List ℕ) → AreBytes bytes → All (FitsSigned w64) (row_cells columns bytes)
 row_is_whole [] bytes are = λ k d within. absurd (omega arith)
-row_is_whole (column ∷ columns) bytes are = by
-  where
-    by : (k : ℕ) (d : ℤ) → k < suc (length (row_cells columns (drop (cell_size column.cell) bytes)))
-        → FitsSigned w64 (get_or (front_cell column.cell bytes ∷ row_cells columns (drop (cell_size column.cell) bytes)) k d)
-    by zero d within = cell_is_whole column.cell bytes are
-    by (suc k) d within = row_is_whole columns (drop (cell_size column.cell) bytes) (bytes-drop (cell_size column.cell) bytes are) k d (omega arith)
+row_is_whole (column ∷ columns) bytes are =
+    All-cons (FitsSigned w64) (front_cell column.cell bytes) (row_cells columns (drop (cell_size column.cell) bytes)) (cell_is_whole column.cell bytes are)
+    (row_is_whole columns (drop (cell_size column.cell) bytes) (bytes-drop (cell_size column.cell) bytes are))
 
 pub cells_are_whole : (columns : List Column) (bytes : List ℕ) (n : ℕ) → AreBytes bytes → All (FitsSigned w64) (table_cells columns bytes n)
 cells_are_whole columns bytes zero are = λ k d within. absurd (omega arith)
@@ -208,10 +207,17 @@ written_again laws columns bytes cells n table whole count long are read =
     ap₂ (table_cells columns) (sym (append-nil written)) (sym count) ∙ laws.read_back columns cells [] table whole in
     table_tells columns n written bytes size long (table_written columns cells) are (back ∙ read)
 
+data_are_bytes : (data_bytes rest : List ℕ) → AreBytes (filled 0 data_bytes ++ rest) → AreBytes data_bytes
+unfolding filled
+data_are_bytes data_bytes rest are =
+    let fill : List ℕ = replicate (room_after (length data_bytes)) 0 in
+    bytes_before data_bytes fill (bytes_before (data_bytes ++ fill) rest are)
+
 pub rows_here : Laws → (columns : List Column) (bytes data_bytes rest : List ℕ) (cells : List ℤ) (n : ℕ) → 0 < length columns → length columns ≤ 99
-    → IsTrue (list_all (λ column. list_all is_plain column.name) columns) → n ≤ 2147483647 → AreBytes data_bytes → length data_bytes ≡ row_size columns * n
+    → IsTrue (list_all (λ column. list_all is_plain column.name) columns) → n ≤ 2147483647 → AreBytes bytes → length data_bytes ≡ row_size columns * n
     → bytes ≡ filled 0 data_bytes ++ rest → cells ≡ table_cells columns data_bytes n → AreRows columns n bytes cells rest
-rows_here laws columns bytes data_bytes rest cells n some few plain rows are long split read =
+rows_here laws columns bytes data_bytes rest cells n some few plain rows all_are long split read =
+    let are = data_are_bytes data_bytes rest (subst AreBytes split all_are) in
     let table : IsTable columns cells = subst (IsTable columns) (sym read) (cells_are_table columns data_bytes n some few plain rows are) in
     let whole : All (FitsSigned w64) cells = subst (λ l. All (FitsSigned w64) l) (sym read) (cells_are_whole columns data_bytes n are) in
     let count : length cells / length columns ≡ n = ap (λ l. length l / length columns) read ∙ table_rows columns data_bytes n some in
