@@ -1,1 +1,3 @@
 mod Collecting
+mod Storing
+mod Images
