@@ -1,5 +1,5 @@
 -- Model: what the words of the command that makes a tile mean, and those of the command that joins tiles. Words are counted from 1.
-use Rattle.std.specs.Prelude.{ℕ, ◌+◌, Bool, true, false, not, nat_lt, List, [], ◌∷◌, ◌++◌, length, drop, Unit, codes}
+use Rattle.std.specs.Prelude.{ℕ, ◌+◌, Bool, true, false, not, nat_lt, List, [], ◌∷◌, ◌++◌, length, drop, codes}
 use Rattle.std.specs.Prelude.{Option, Some, None, is_some, option_and_then, Result, Ok, Err, if◌then◌else◌}
 use Rattle.std.specs.List.{position_from}
 use Rattle.std.specs.Option.{option_map, option_or}
@@ -50,8 +50,8 @@ place_faults words =
     ∷ (shape_faults words 3 ++ (frame_faults (codes "--window") words 5 ++ frame_faults (codes "--core") words 10))
 
 -- the first word at fault, of words from word k on
-unfoldable pub first_fault : ℕ → List Bool → Option ℕ
-first_fault k faults = position_from (λ fault. fault) k faults
+unfoldable pub first_word_at_fault : ℕ → List Bool → Option ℕ
+first_word_at_fault k faults = position_from (λ fault. fault) k faults
 
 -- ---- the order of a tile
 
@@ -65,15 +65,15 @@ fault_behind (Err usage) = Some (usage.word + 14)
 
 -- the first word at fault, where images have no more pixels than the most
 abbrev pub tile_fault : (most : ℕ) → List (List ℕ) → Option ℕ
-tile_fault most words = option_or (first_fault 1 (place_faults words)) (fault_behind (order_behind most words))
+tile_fault most words = option_or (first_word_at_fault 1 (place_faults words)) (fault_behind (order_behind most words))
 
 -- what a job that detects asks of a source
-abbrev pub detected : Job → Option Choice
-detected job.Tree = None
-detected (job.Filter rule criterion) = None
-detected (job.Detect choice) = Some choice
-detected (job.Trial seed shape) = None
-detected (job.Measure choice values) = None
+abbrev pub choice_of_job : Job → Option Choice
+choice_of_job job.Tree = None
+choice_of_job (job.Filter rule criterion) = None
+choice_of_job (job.Detect choice) = Some choice
+choice_of_job (job.Trial seed shape) = None
+choice_of_job (job.Measure choice values) = None
 
 -- the tile of this core in this window
 abbrev pub tile_in : Shape → Frame → Frame → Order → Choice → TileOrder
@@ -85,7 +85,7 @@ tile_in whole window core order choice = record {
 }
 
 abbrev pub tile_by : Option Shape → Option Frame → Option Frame → Result Order Usage → Option TileOrder
-tile_by (Some whole) (Some window) (Some core) (Ok order) = option_map (tile_in whole window core order) (detected order.job)
+tile_by (Some whole) (Some window) (Some core) (Ok order) = option_map (tile_in whole window core order) (choice_of_job order.job)
 tile_by whole window core order = None
 
 -- the tile that the words tell, where none of them is at fault; none where the order isn't to detect

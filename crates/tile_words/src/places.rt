@@ -5,7 +5,7 @@ ghost use Rattle.command_line.specs.Lines.{texts};
 ghost use Rattle.orders.specs.Options.{u16_in, positive_u16_in};
 ghost use Rattle.orders.specs.Words.{word_at};
 ghost use Rattle.pixel_plane.specs.ImageLimits.{plane_shape};
-ghost use Rattle.tile_words.specs.TileWords.{first_fault, shape_faults, frame_faults, place_faults};
+ghost use Rattle.tile_words.specs.TileWords.{first_word_at_fault, shape_faults, frame_faults, place_faults};
 ghost use Rattle.tile_words.specs.TileReading.{IsShapeRead, IsFrameRead, ArePlacesRead};
 
 use command_line::numbers::number_between;
@@ -77,7 +77,7 @@ fn read_shape(words: &[&str], first: u32) -> Result<Shape, Usage>
     requires near { first ≤ 14 }
     ensures { MatchResult result
         (λ shape. IsShapeRead (texts words.now) first shape)
-        (λ usage. first_fault first (shape_faults (texts words.now) first) ≡ Some usage.word) }
+        (λ usage. first_word_at_fault first (shape_faults (texts words.now) first) ≡ Some usage.word) }
 {
     let Some(width) = side_in(words, first) else {
         return Err(Usage { word: first });
@@ -97,7 +97,7 @@ fn read_frame(words: &[&str], first: u32, name: &str) -> Result<Frame, Usage>
     requires near { first ≤ 10 }
     ensures { MatchResult result
         (λ frame. IsFrameRead name.now (texts words.now) first frame)
-        (λ usage. first_fault first (frame_faults name.now (texts words.now) first) ≡ Some usage.word) }
+        (λ usage. first_word_at_fault first (frame_faults name.now (texts words.now) first) ≡ Some usage.word) }
 {
     if !is_word(words, first, name) {
         return Err(Usage { word: first });
@@ -118,7 +118,7 @@ fn read_frame(words: &[&str], first: u32, name: &str) -> Result<Frame, Usage>
 pub(crate) fn read_places(words: &[&str]) -> Result<Places, Usage>
     ensures { MatchResult result
         (λ places. ArePlacesRead (texts words.now) places)
-        (λ usage. first_fault 1 (place_faults (texts words.now)) ≡ Some usage.word) }
+        (λ usage. first_word_at_fault 1 (place_faults (texts words.now)) ≡ Some usage.word) }
 {
     if !is_word(words, 1, "tile") {
         return Err(Usage { word: 1 });
