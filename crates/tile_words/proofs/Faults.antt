@@ -1,15 +1,13 @@
 -- The first word at fault among those that tell where a tile lies.
-use Rattle.std.proofs.Common.{◌≡◌, ◌∙◌, ℕ, ◌+◌, Bool, true, false, not, cond, List, [], ◌∷◌, ◌++◌, length, refl, sym, ap, arith, codes}
+use Rattle.std.proofs.Common.{◌≡◌, ◌∙◌, ℕ, ◌+◌, Bool, true, false, not, cond, List, [], ◌∷◌, ◌++◌, length, refl, ap, arith, codes}
 use Rattle.std.specs.Prelude.{Option, Some, None, is_some, option_and_then}
 use Rattle.std.specs.List.{position_from}
-use Rattle.std.specs.Option.{option_map}
 use Rattle.std.specs.Str.{bytes_eq}
 use Rattle.comp_tree.specs.declared.shape.Shape.{Shape}
 use Rattle.pixel_plane.specs.ImageLimits.{plane_shape}
 use Rattle.orders.specs.Options.{u16_in, positive_u16_in}
 use Rattle.orders.specs.Words.{word_at}
 use Rattle.tile_join.specs.declared.tiles.Frame.{Frame}
-use Rattle.tile_words.specs.declared.places.Places.{Places}
 use Rattle.tile_words.specs.TileWords.{first_word_at_fault, shape_told, shape_faults, frame_with, frame_told, frame_faults, place_faults}
 use Rattle.tile_words.specs.TileReading.{IsShapeRead, IsFrameRead, ArePlacesRead}
 

@@ -1,9 +1,8 @@
 -- The order of a tile, from what is read of its words.
-use Rattle.std.proofs.Common.{◌≡◌, ◌∙◌, ℕ, ◌+◌, ◌-◌, ◌<◌, ◌≤◌, min, Bool, true, false, cond, nat_lt, List, length, take, drop, refl, sym, ap, inl, inr, arith, codes}
+use Rattle.std.proofs.Common.{◌≡◌, ◌∙◌, ℕ, ◌+◌, ◌-◌, ◌≤◌, min, Bool, true, false, cond, nat_le, List, length, take, drop, refl, sym, ap, inl, inr, arith, codes}
 use Rattle.std.proofs.lemmas.Bool.{cases_lt}
-use Rattle.std.proofs.lemmas.Bool.Decides.{nat_tests}
 use Rattle.std.proofs.lemmas.List.{take_all, drop_all, drop-map, length-drop, length-map}
-use Rattle.std.specs.Prelude.{Option, Some, None, Result, Ok, Err}
+use Rattle.std.specs.Prelude.{Some, None, Ok, Err}
 use Rattle.std.specs.Str.{bytes_eq}
 use denote.Ref.{Bor}
 use Rattle.command_line.specs.Lines.{texts}
@@ -25,8 +24,8 @@ use Rattle.tile_words.specs.TileReading.{ArePlacesRead}
 drop_front : {X : Type 0} (xs : List X) (front k : ℕ) → front ≡ min (length xs) k → drop front xs ≡ drop k xs
 drop_front xs front k is = elim (cases_lt (length xs) k) [
   | inl less ↦
-    let past : length xs ≤ front = omega (arith, is, less) in
-    drop_all front xs past ∙ sym (drop_all k xs (omega (arith, less)))
+      let past : length xs ≤ front = omega (arith, is, less) in
+      drop_all front xs past ∙ sym (drop_all k xs (omega (arith, less)))
   | inr more ↦ let same : front ≡ k = omega (arith, is, more) in ap (λ n. drop n xs) same
 ]
 
@@ -95,16 +94,12 @@ pub join_at_fault : (words : List (Bor (List ℕ))) → bytes_eq (word_at (texts
 unfolding join_order_of
 join_at_fault words other = rw other refl
 
-pub more_at_fault : (words : List (Bor (List ℕ))) → bytes_eq (word_at (texts words) 1) (codes "join") ≡ true → 1 < length words
+pub more_at_fault : (words : List (Bor (List ℕ))) → bytes_eq (word_at (texts words) 1) (codes "join") ≡ true → nat_le (length words) 1 ≡ false
     → join_order_of (texts words) ≡ at_fault 2
 unfolding join_order_of
-more_at_fault words join more =
-    let there : nat_lt 1 (length (texts words)) ≡ true = grind (arith, nat_tests, length-map words (λ (w : Bor (List ℕ)). w.now)) in
-    rw (join, there) refl
+more_at_fault words join more = let same = length-map words (λ (w : Bor (List ℕ)). w.now) in rw (join, same, more) refl
 
-pub join_read : (words : List (Bor (List ℕ))) → bytes_eq (word_at (texts words) 1) (codes "join") ≡ true → length words ≤ 1
+pub join_read : (words : List (Bor (List ℕ))) → bytes_eq (word_at (texts words) 1) (codes "join") ≡ true → nat_le (length words) 1 ≡ true
     → join_order_of (texts words) ≡ Ok tt
 unfolding join_order_of
-join_read words join few =
-    let there : nat_lt 1 (length (texts words)) ≡ false = grind (arith, nat_tests, length-map words (λ (w : Bor (List ℕ)). w.now)) in
-    rw (join, there) refl
+join_read words join alone = let same = length-map words (λ (w : Bor (List ℕ)). w.now) in rw (join, same, alone) refl

@@ -23,10 +23,10 @@ unfolding plane_shape fits_plane
 shape_is_wide width height result accepted sides =
     by_fit width height (fits_plane width height) (plane_sides width height)
     (λ within.
-      let columns = within.some_columns in
-      let rows = within.some_rows in
-      let few_columns = within.few_columns in
-      let few_rows = within.few_rows in
-      let few_pixels = within.few_pixels in
-      grind (arith, nat_tests))
+    let columns = within.some_columns in
+    let rows = within.some_rows in
+    let few_columns = within.few_columns in
+    let few_rows = within.few_rows in
+    let few_pixels = within.few_pixels in
+    grind (arith, nat_tests))
     result accepted sides

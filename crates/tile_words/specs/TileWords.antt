@@ -1,5 +1,5 @@
 -- Model: what the words of the command that makes a tile mean, and those of the command that joins tiles. Words are counted from 1.
-use Rattle.std.specs.Prelude.{ℕ, ◌+◌, Bool, true, false, not, nat_lt, List, [], ◌∷◌, ◌++◌, length, drop, codes}
+use Rattle.std.specs.Prelude.{ℕ, ◌+◌, Bool, not, nat_le, List, [], ◌∷◌, ◌++◌, length, drop, codes}
 use Rattle.std.specs.Prelude.{Option, Some, None, is_some, option_and_then, Result, Ok, Err, if◌then◌else◌}
 use Rattle.std.specs.List.{position_from}
 use Rattle.std.specs.Option.{option_map, option_or}
@@ -106,4 +106,4 @@ tile_order_of most words = tile_if_placed (order_unless (tile_fault most words) 
 -- the one word is `join`
 unfoldable pub join_order_of : List (List ℕ) → Result (Unit {0}) Usage
 join_order_of words =
-    if not (bytes_eq (word_at words 1) (codes "join")) then at_fault 1 else (if nat_lt 1 (length words) then at_fault 2 else Ok tt)
+    if not (bytes_eq (word_at words 1) (codes "join")) then at_fault 1 else (if nat_le (length words) 1 then Ok tt else at_fault 2)

@@ -1,5 +1,5 @@
 //! The words of `tile` and of `join`.
-ghost use Rattle.std.specs.Prelude.{◌≡◌, ◌≤◌, ◌*◌, ◌+◌, true, length, IfOk, IfErr, MatchResult};
+ghost use Rattle.std.specs.Prelude.{◌≡◌, ◌≤◌, ◌*◌, ◌+◌, true, nat_le, length, IfOk, IfErr};
 ghost use Rattle.command_line.specs.Lines.{texts};
 ghost use Rattle.orders.specs.Options.{settings};
 ghost use Rattle.orders.specs.Words.{HasLimits};
@@ -89,6 +89,13 @@ fn tile_of(places: Places, order: Order, choice: Choice) -> TileOrder
     }
 }
 
+// No word stands behind the first one.
+fn is_alone(words: &[&str]) -> bool
+    ensures { result ≡ nat_le (length words.now) 1 }
+{
+    words.len() <= 1
+}
+
 /// Reads the words of the command that joins tiles, without the program's name: `join` alone. It takes no memory.
 pub fn read_join(words: &[&str]) -> Result<(), Usage>
     ensures { result ≡ join_order_of (texts words.now) }
@@ -96,7 +103,7 @@ pub fn read_join(words: &[&str]) -> Result<(), Usage>
     if !is_word(words, 1, "join") {
         return Err(Usage { word: 1 });
     }
-    if words.len() > 1 {
+    if !is_alone(words) {
         return Err(Usage { word: 2 });
     }
     Ok(())

@@ -5,8 +5,8 @@ use Rattle.tile_words.proofs.words.read_join.Goals as goal
 pub returns-then-not-is_word : goal.returns-then-not-is_word
 returns-then-not-is_word c = sym (join_at_fault c.args.words.now (sym c.if-not-is_word.ensures))
 
-pub returns-then-words-gt1 : goal.returns-then-words-gt1
-returns-then-words-gt1 c = sym (more_at_fault c.args.words.now (sym c.if-not-is_word.ensures) c.if-words-gt1.true)
+pub returns-then-not-is_alone : goal.returns-then-not-is_alone
+returns-then-not-is_alone c = sym (more_at_fault c.args.words.now (sym c.if-not-is_word.ensures) (sym c.if-not-is_alone.ensures))
 
 pub returns : goal.returns
-returns c = sym (join_read c.args.words.now (sym c.if-not-is_word.ensures) c.if-words-gt1.false)
+returns c = sym (join_read c.args.words.now (sym c.if-not-is_word.ensures) (sym c.if-not-is_alone.ensures))

@@ -1,5 +1,4 @@
-use Rattle.std.proofs.Common.{◌∙◌, sym, ap}
-use Rattle.std.specs.Prelude.{Ok}
+use Rattle.std.proofs.Common.{sym, ap}
 use Rattle.command_line.specs.Lines.{texts}
 use Rattle.tile_words.specs.TileWords.{choice_of_job}
 use Rattle.tile_words.proofs.Orders.{place_at_fault, order_at_fault, job_at_fault, no_choice, tile_placed, tile_misplaced}
