@@ -1,12 +1,12 @@
-//! The program for large images: hands its words and its streams to `run_within` with the limits of large images, and exits with its status.
+//! The program for large images: hands its words and its streams to `run_wide` with the limits of large images, and exits with its status.
 #![tactic(auto)]
 
 use command_line::words::{NO_MEMORY, words};
-use detect_top::run_within;
 use dev_io::{ReadSource, WriteSink};
 use pixel_plane::Limits;
 use std::process::ExitCode;
 use strip_crew::OpenGate;
+use wide_top::run_wide;
 
 fn main(rt: HostRuntime) -> ExitCode {
     let alloc = rt.alloc();
@@ -22,7 +22,7 @@ fn main(rt: HostRuntime) -> ExitCode {
     let mut input = ReadSource::new(rt.stdin());
     let mut output = WriteSink::new(rt.stdout());
     let mut notes = WriteSink::new(rt.stderr());
-    let status = run_within(
+    let status = run_wide(
         &rt,
         alloc,
         &texts,

@@ -1,5 +1,5 @@
 //! The words of the command.
-ghost use Rattle.std.specs.Prelude.{◌≡◌, ◌≤◌, ◌<◌, ◌+◌, ◌*◌, ℕ, IfOk, IfSome, MatchResult, length, is_some};
+ghost use Rattle.std.specs.Prelude.{◌≡◌, ◌≤◌, ◌<◌, ◌+◌, ◌*◌, ℕ, IfOk, IfErr, IfSome, MatchResult, length, is_some};
 ghost use Rattle.std.specs.Option.{option_map};
 ghost use Rattle.command_line.specs.Lines.{texts};
 ghost use Rattle.orders.specs.Options.{settings, area_in};
@@ -93,9 +93,10 @@ fn judge_pair(command: Command, words: &[&str], pair: u32, most: u32) -> Result<
     requires read { AreRead most command (texts words.now) pair }
     requires few { pair ≤ length settings }
     requires more { 2 * pair + 1 < length words.now }
-    ensures { MatchResult result
+    ensures told { MatchResult result
         (λ _. AreRead most command (texts words.now) (pair + 1))
         (λ usage. IsFirstFault most command (texts words.now) usage.word) }
+    ensures near { IfErr result (λ usage. usage.word ≤ 2 * pair + 3) }
 {
     let word = 2 * pair + 2;
     let Some(setting) = command.option(words[word as usize - 1]) else {
@@ -268,6 +269,7 @@ fn pairs_read(command: Command, words: &[&str], most: u32) -> Result<u32, Usage>
         (λ usage. IsFirstFault most command (texts words.now) usage.word) }
     ensures few { IfOk result (λ pairs. pairs ≤ length settings) }
     ensures there { IfOk result (λ pairs. 2 * pairs + 1 ≤ length words.now) }
+    ensures near { IfErr result (λ usage. usage.word ≤ 2 * length settings + 3) }
 {
     let mut pairs = 0;
     while 2 * pairs as usize + 1 < words.len() {
@@ -293,6 +295,7 @@ pub fn read_order(words: &[&str]) -> Result<Order, Usage>
 pub fn read_order_within(words: &[&str], most: u32) -> Result<Order, Usage>
     ensures order { result ≡ order_within most (texts words.now) }
     ensures limits { IfOk result HasLimits }
+    ensures near { IfErr result (λ usage. usage.word ≤ 2 * length settings + 3) }
 {
     let Some(command) = command(words) else {
         return Err(Usage { word: 1 });

@@ -10,4 +10,4 @@ mod rows;
 mod tests;
 
 pub use making::{TileStop, make_tile};
-pub use placing::TilePlace;
+pub use placing::{TilePlace, is_placed};

@@ -19,9 +19,9 @@ pub struct TilePlace {
     pub core: Frame,
 }
 
-// Whether the core lies in the window of this shape, this in the image, and the window's corner on the mesh.
+/// Whether the core lies in the window of this shape, this in the image, and the window's corner on the mesh.
 #[tactic(auto, unfolding(crate::specs::Placed::is_tile_place))]
-pub(crate) fn is_placed(place: &TilePlace, shape: Shape, mesh: u32) -> bool
+pub fn is_placed(place: &TilePlace, shape: Shape, mesh: u32) -> bool
     ensures { result ≡ is_tile_place place.now shape mesh }
 {
     is_on_mesh(place, mesh) && lies_in_image(place, shape)

@@ -10,7 +10,7 @@ pub loop-pairs-init : goal.loop-pairs-init
 loop-pairs-init c = record { read = nothing_read c.args.most c.args.command c.args.words.now c.requires; few = omega arith }
 
 pub loop-pairs-preserved : goal.loop-pairs-preserved
-loop-pairs-preserved c = record { read = c.in_default.ensures; few = few_read c.args.most c.args.command (texts c.args.words.now) _ c.in_default.ensures }
+loop-pairs-preserved c = record { read = c.in_default.ensures.told; few = few_read c.args.most c.args.command (texts c.args.words.now) _ c.in_default.ensures.told }
 
 pub returns-clause-told : goal.returns-clause-told
 returns-clause-told c = all_read c.args.most c.args.command c.args.words.now c.loop-pairs.pairs c.loop-pairs.invariant.read c.loop-pairs-test.false

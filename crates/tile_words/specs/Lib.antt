@@ -1,0 +1,2 @@
+pub mod TileWords
+pub mod TileReading
