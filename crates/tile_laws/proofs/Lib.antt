@@ -11,4 +11,6 @@ mod Measured
 mod Backed
 mod Existing
 mod NodeBoxes
+mod Testing
+mod Opened
 pub mod Exported

@@ -34,7 +34,8 @@ use Rattle.tile_join.specs.Tiles.{window_of, is_in_frame}
 use Rattle.tile_join.specs.Made.{own_rows, piece_of, IsTileMade}
 use Rattle.tile_make.specs.declared.placing.TilePlace.{TilePlace}
 use Rattle.tile_make.specs.Placed.{window_of_place, detection_of}
-use Rattle.tile_make.specs.Told.{MakingLaws, HasFullMesh, IsPlacedWell, IsSureExtent, IsKnown, IsTold, own_of}
+use Rattle.tile_make.specs.TileOf.{own_of}
+use Rattle.tile_make.specs.Told.{MakingLaws, HasFullMesh, IsPlacedWell, IsSureExtent, IsKnown, IsTold}
 
 -- ---- the plane that is kept
 

@@ -24,7 +24,8 @@ use Rattle.tile_laws.specs.Pieces.{first_pixel}
 use Rattle.tile_join.specs.Tiles.{is_in_frame}
 use Rattle.tile_make.specs.declared.placing.TilePlace.{TilePlace}
 use Rattle.tile_make.specs.Placed.{window_of_place}
-use Rattle.tile_make.specs.Told.{own_of, FirstStandsIn}
+use Rattle.tile_make.specs.TileOf.{own_of}
+use Rattle.tile_make.specs.Told.{FirstStandsIn}
 
 column_fits : (z : ℤ) → FitsColumn z → SFits w64 z
 column_fits z k =

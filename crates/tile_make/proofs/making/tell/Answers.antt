@@ -6,7 +6,7 @@ use Rattle.comp_tree.proofs.Exported.{shape-of}
 use Rattle.source_pick.specs.Catalogue.{catalogue, catalogue_of}
 use Rattle.source_pick.specs.Segmentation.{segmentation, segmentation_of}
 use Rattle.tile_make.specs.Placed.{window_of_place}
-use Rattle.tile_make.specs.Told.{own_of}
+use Rattle.tile_make.specs.TileOf.{own_of}
 use Rattle.tile_make.proofs.making.tell.Goals as goal
 
 pub open_of-requires-clause-inside : goal.open_of-requires-clause-inside

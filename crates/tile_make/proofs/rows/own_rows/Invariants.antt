@@ -1,7 +1,7 @@
 use Rattle.std.proofs.Common.{◌≡◌, take}
 use Rattle.node_sums.specs.Sums.{ForEachPlaneOf}
 use Rattle.source_pick.specs.Catalogue.{catalogue_of}
-use Rattle.tile_make.specs.Told.{own_of}
+use Rattle.tile_make.specs.TileOf.{own_of}
 use Rattle.tile_make.proofs.rows.own_rows.Given as goal
 
 abbrev pub invariant-loop-i : goal.invariant-loop-i
