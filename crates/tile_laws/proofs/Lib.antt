@@ -13,4 +13,5 @@ mod Existing
 mod NodeBoxes
 mod Testing
 mod Opened
+mod Fewer
 pub mod Exported

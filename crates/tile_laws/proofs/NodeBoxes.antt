@@ -58,7 +58,7 @@ in_box r connect n p k = record {
     there : IsAmong p (pixels_of r connect n)
     there = among_pixels r connect n p k
 
-box_in : (r : Raster) (connect : Connect) (n : ℕ) → IsPlane r → n < length (nodes r connect) → HasBoxIn r.shape (sums_of r connect n)
+pub box_in : (r : Raster) (connect : Connect) (n : ℕ) → IsPlane r → n < length (nodes r connect) → HasBoxIn r.shape (sums_of r connect n)
 unfolding sums_of sums_over
 box_in r connect n plane hn = record {
   left = let a : 1 ≤ least (x_of r) (pixels_of r connect n) = least_from (x_of r) 1 (pixels_of r connect n) (omega arith) (λ p m. omega arith) in omega (arith, a);

@@ -44,6 +44,7 @@ pub fn open_boxes(
     ensures exact { IfOk result (λ boxes. boxes.items ≡ open_extents choice.now.threshold tree.now.rows sums.now
         place.now.left place.now.top place.now.whole (extent_box core.now) (extent_box sure.now)) }
     ensures inside { IfOk result (λ boxes. All (λ found. IsBoxOf place.now.whole (extent_box found)) boxes.items) }
+    ensures few { IfOk result (λ boxes. length boxes.items ≤ 2147483644) }
     ensures known { IfOk result (λ boxes. boxes.items ≡ [] → AreSettled choice.now.threshold tree.now.rows sums.now
         place.now.left place.now.top place.now.whole (extent_box core.now) (extent_box sure.now) (length tree.now.rows)) }
     ensures unsettled { IfOk result (λ boxes. All (λ found. IsUnsettled choice.now.threshold tree.now.rows sums.now

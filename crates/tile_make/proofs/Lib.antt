@@ -1,4 +1,5 @@
 mod Meshing
+mod Marked
 mod Moving
 mod Telling
 mod Made

@@ -154,7 +154,7 @@ module _ (laws : MakingLaws) (order : Order) (choice : Choice) (place : TilePlac
   left_shape = residual_shape image order.mesh order.flat
 
   window_is : window_of t.window ≡ w
-  window_is = told.window ∙ ap (window_of_place place) k_shape
+  window_is = ap window_of told.window ∙ ap (window_of_place place) k_shape
 
   found_is : detected d image ≡ detected d (seen_through (window_of t.window) r)
   found_is = ap (detected d) (sym seen) ∙ ap (λ (v : Window). detected d (seen_through v r)) (sym window_is)
@@ -233,7 +233,7 @@ module _ (laws : MakingLaws) (order : Order) (choice : Choice) (place : TilePlac
     whole = told.whole ∙ sym shape;
     inside = subst (λ (v : Window). IsInside r.shape v) (sym window_is) inside;
     rows = own_from place k.shape r.shape.width t.window t.core t.rows.items (catalogue k order.connect choice) d
-        (seen_through (window_of t.window) r) (ap (λ (s : Shape). s.width) (sym shape)) told.core told.window told.rows
+        (seen_through (window_of t.window) r) (ap (λ (s : Shape). s.width) (sym shape)) told.core (ap window_of told.window) told.rows
         (sym same.rows ∙ found_is);
     map = told.map ∙ sym same.numbers ∙ ap (mapped d) (sym seen) ∙ ap (λ (v : Window). mapped d (seen_through v r)) (sym window_is);
     answers = λ none. subst (AnswersForCore d r) piece_is (answers_piece none);

@@ -78,12 +78,9 @@ fn row_in_image(tree: &Tree, sums: &[Sums], number: u32, node: u32, place: &Tile
 // A row of the window, as one of the image.
 fn in_image(place: &TilePlace, row: &CatRow) -> CatRow
     requires fits { FitsColumns row.now }
-    requires centred { IsCentred row.now }
-    requires box { IsBoxOfColumns row.now }
     requires left { place.now.left ≤ 65535 }
     requires top { place.now.top ≤ 65535 }
-    ensures fits { FitsColumns result }
-    ensures exact { (shape : Sides) → result ≡ moved_row (window_of_place place.now shape) row.now }
+    ensures { (shape : Sides) → result ≡ moved_row (window_of_place place.now shape) row.now }
 {
     let left = place.left as i64;
     let top = place.top as i64;

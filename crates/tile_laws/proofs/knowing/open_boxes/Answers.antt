@@ -6,6 +6,7 @@ use Rattle.tile_laws.specs.Knowing.{IsSettled, node_box}
 use Rattle.tile_laws.specs.Extents.{extent_box}
 use Rattle.tile_laws.specs.Opening.{is_whole_at, is_settled, IsBoxOf}
 use Rattle.tile_laws.proofs.NodeBoxes.{entry_inside, boxed, nothing_opened, none_opened, one_opened, passed_over, settled_up_to}
+use Rattle.tile_laws.proofs.Fewer.{few_of_tree, few_is}
 use Rattle.tile_laws.proofs.Opened.{whole_told, settled_told, none_opened_yet, one_more, no_more, none_more, all_opened}
 use Rattle.node_sums.proofs.Exported.{trees_rows}
 use Rattle.tile_laws.proofs.knowing.open_boxes.Goals.{then-is_whole_at+then-not-is_settled+in_ok-push, then-is_whole_at+else-not-is_settled, else-is_whole_at}
@@ -90,3 +91,12 @@ returns-clause-unsettled c = c.loop-n.invariant.told.1
 
 pub returns-clause-inside : goal.returns-clause-inside
 returns-clause-inside c = c.loop-n.invariant.inside
+
+pub returns-clause-few : goal.returns-clause-few
+returns-clause-few c =
+    few_is c.loop-n.boxes.items _
+    (all_opened c.args.choice.now.threshold c.args.tree.now.rows c.args.sums.now c.args.place.now.left c.args.place.now.top c.args.place.now.whole
+    (extent_box c.args.core.now) (extent_box c.args.sure.now) c.loop-n.n c.loop-n.boxes.items
+    (omega (arith, c.loop-n-test.false, c.node_count-n-end.ensures.all, trees_rows c.args.tree.now c.args.sums.now c.requires.sums)) c.loop-n.invariant)
+    (few_of_tree c.args.tree.now c.args.sums.now c.args.choice.now.threshold c.args.place.now.left c.args.place.now.top c.args.place.now.whole
+    (extent_box c.args.core.now) (extent_box c.args.sure.now) c.requires.sums)
