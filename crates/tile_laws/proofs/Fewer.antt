@@ -13,7 +13,6 @@ use Rattle.lemmas.proofs.Exported.{int_le_from_lt}
 use Rattle.comp_tree.specs.declared.shape.Connect.{Connect}
 use Rattle.comp_tree.specs.declared.shape.Connect.TheVariants.{Four, Eight}
 use Rattle.comp_tree.specs.declared.shape.Shape.{Shape}
-use Rattle.comp_tree.specs.declared.tree.NodeRow.{NodeRow}
 use Rattle.comp_tree.specs.Raster.{Raster, IsPlane, is_at_least, is_defined, level}
 use Rattle.comp_tree.specs.Grid.{distance, are_neighbours}
 use Rattle.comp_tree.specs.ComponentTree.{ComponentTree, no_node, parent_in}
@@ -21,8 +20,8 @@ use Rattle.comp_tree.specs.Components.{is_candidate, nodes, node_of, parent_of, 
 use Rattle.comp_tree.specs.Laws.{IsNode, top_of}
 use Rattle.comp_tree.specs.Nesting.{level_in}
 use Rattle.comp_tree.specs.Windows.{Box}
-use Rattle.comp_tree.proofs.Exported.{ParentCase, IsPlace, adjacent_from, at_least-from, at_least-own, below_from_defined, below_no_node, candidate-from, candidate-parts}
-use Rattle.comp_tree.proofs.Exported.{child, defined_from_at_least, joined_pair, length-nodes-le, length-rows, neighbours_eight, neighbours_four, node-unique}
+use Rattle.comp_tree.proofs.Exported.{ParentCase, IsPlace, adjacent_from, at_least-from, below_from_defined, below_no_node, candidate-from, candidate-parts}
+use Rattle.comp_tree.proofs.Exported.{child, defined_from_at_least, joined_pair, length-nodes-le, neighbours_eight, neighbours_four, node-unique}
 use Rattle.comp_tree.proofs.Exported.{node_of-is, node_of_top, parent-case, parent-of_node, reaches-is_IsReached, reaches_start, reaches_sym, representative-is}
 use Rattle.comp_tree.proofs.Exported.{representative-same, root, top-defined}
 use Rattle.node_sums.specs.declared.entry.Sums.{Sums}
@@ -285,8 +284,14 @@ module _ (r : Raster) (connect : Connect) (plane : IsPlane r) (threshold : ℤ) 
 
       go : (2147483644 < length r.values) ⊎ (length r.values ≤ 2147483644) → length (filter is_open (enumerate_from 0 (sums_in r connect))) ≤ 2147483644
       go (inr small) =
-          omega (arith, small, length_filtered is_open (enumerate_from 0 (sums_in r connect)), length-enumerate_from 0 (sums_in r connect), counted,
-          length-nodes-le r connect)
+          omega (
+            arith,
+            small,
+            length_filtered is_open (enumerate_from 0 (sums_in r connect)),
+            length-enumerate_from 0 (sums_in r connect),
+            counted,
+            length-nodes-le r connect,
+          )
       go (inl large) =
           omega (arith, large, few, length-map (filter is_open (enumerate_from 0 (sums_in r connect))) place_of, fewer)
         where

@@ -1,17 +1,14 @@
 -- The tests of boxes say what they are named for.
-use Rattle.std.proofs.Common.{◌≡◌, ℕ, ◌+◌, ◌-◌, ◌<◌, ◌≤◌, ◌↔◌, Bool, true, false, ◌&&◌, ◌||◌, ◌==◌, not, refl, sym, ◌∙◌, arith, ◌⊎◌, inl, inr}
-use Rattle.std.specs.Prelude.{IsTrue, nat_le, nat_lt, ℤ, ◌<ℤ◌, int_le, int_lt, List}
+use Rattle.std.proofs.Common.{◌≡◌, ℕ, ◌+◌, ◌-◌, ◌<◌, ◌≤◌, Bool, true, false, ◌&&◌, ◌||◌, ◌==◌, not, sym, ◌∙◌, arith, ◌⊎◌, inl, inr}
+use Rattle.std.specs.Prelude.{nat_le, nat_lt, ◌<ℤ◌, int_le, int_lt}
 use Rattle.std.proofs.lemmas.Bool.{and_parts, and_from, or_cases, or_left, or_right, eqb-true, eq-eqb, ltb-true, lt-ltb, leb-true, le-leb, cases_lt, cases_Bool}
 use Rattle.std.proofs.lemmas.Bool.{not-true, not_from_false, true≢false}
 use Rattle.lemmas.proofs.Exported.{int_le-true, int_le-from, int_lt-true, int_lt-from}
-use Rattle.comp_tree.specs.declared.shape.Shape.{Shape}
-use Rattle.comp_tree.specs.declared.tree.NodeRow.{NodeRow}
 use Rattle.comp_tree.specs.ComponentTree.{no_node, parent_in}
 use Rattle.comp_tree.specs.Nesting.{level_in}
-use Rattle.comp_tree.specs.Windows.{Box, IsDeep}
-use Rattle.tile_laws.specs.Clear.{IsBoxWithin}
-use Rattle.tile_laws.specs.Knowing.{DoMeet, IsSettled, IsBoxDeep, IsWholeAt}
-use Rattle.tile_laws.specs.Opening.{is_whole_at, do_meet, is_box_within, lie_deep_along, is_settled, IsBoxOf}
+use Rattle.comp_tree.specs.Windows.{IsDeep}
+use Rattle.tile_laws.specs.Knowing.{IsSettled, IsBoxDeep, IsWholeAt}
+use Rattle.tile_laws.specs.Opening.{is_whole_at, do_meet, is_box_within, lie_deep_along, is_settled}
 use Rattle.tile_laws.specs.Opening.{WholeTestIsExact, MeetingTestIsExact, WithinTestIsExact, SettledTestIsExact}
 use Rattle.tile_laws.proofs.Depth.{deep_box, deep_columns, deep_rows}
 
@@ -61,14 +58,14 @@ pub meeting_test_is_exact : MeetingTestIsExact
 unfolding do_meet
 meeting_test_is_exact a b = (
   (λ k. let p = four_parts (nat_lt a.left b.right) (nat_lt b.left a.right) (nat_lt a.top b.bottom) (nat_lt b.top a.bottom) k in
-  record {
-    left = ltb-true a.left b.right p.0;
-    right = ltb-true b.left a.right p.1;
-    top = ltb-true a.top b.bottom p.2;
-    bottom = ltb-true b.top a.bottom p.3;
-  }),
+      record {
+        left = ltb-true a.left b.right p.0;
+        right = ltb-true b.left a.right p.1;
+        top = ltb-true a.top b.bottom p.2;
+        bottom = ltb-true b.top a.bottom p.3;
+      }),
   (λ m. four_from (nat_lt a.left b.right) (nat_lt b.left a.right) (nat_lt a.top b.bottom) (nat_lt b.top a.bottom) (lt-ltb a.left b.right m.left)
-  (lt-ltb b.left a.right m.right) (lt-ltb a.top b.bottom m.top) (lt-ltb b.top a.bottom m.bottom)),
+      (lt-ltb b.left a.right m.right) (lt-ltb a.top b.bottom m.top) (lt-ltb b.top a.bottom m.bottom)),
 )
 
 pub within_test_is_exact : WithinTestIsExact
@@ -76,15 +73,15 @@ unfolding is_box_within
 within_test_is_exact outer inner = (
   (λ k. let p =
       four_parts (nat_le outer.left inner.left) (nat_le inner.right outer.right) (nat_le outer.top inner.top) (nat_le inner.bottom outer.bottom) k in
-  record {
-    left = leb-true outer.left inner.left p.0;
-    right = leb-true inner.right outer.right p.1;
-    top = leb-true outer.top inner.top p.2;
-    bottom = leb-true inner.bottom outer.bottom p.3;
-  }),
+      record {
+        left = leb-true outer.left inner.left p.0;
+        right = leb-true inner.right outer.right p.1;
+        top = leb-true outer.top inner.top p.2;
+        bottom = leb-true inner.bottom outer.bottom p.3;
+      }),
   (λ m. four_from (nat_le outer.left inner.left) (nat_le inner.right outer.right) (nat_le outer.top inner.top) (nat_le inner.bottom outer.bottom)
-  (le-leb outer.left inner.left m.left) (le-leb inner.right outer.right m.right) (le-leb outer.top inner.top m.top)
-  (le-leb inner.bottom outer.bottom m.bottom)),
+      (le-leb outer.left inner.left m.left) (le-leb inner.right outer.right m.right) (le-leb outer.top inner.top m.top)
+      (le-leb inner.bottom outer.bottom m.bottom)),
 )
 
 -- ---- places that lie deep

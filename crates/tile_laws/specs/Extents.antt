@@ -1,6 +1,5 @@
 -- Model: a box as the code has it.
 use Rattle.comp_tree.specs.Windows.{Box}
-use Rattle.tile_laws.specs.declared.extents.Interval.{Interval}
 use Rattle.tile_laws.specs.declared.extents.Extent.{Extent}
 
 abbrev pub extent_box : Extent → Box

@@ -1,10 +1,9 @@
-use Rattle.std.proofs.Common.{◌≡◌, ◌<◌, ap, sym, ◌∙◌, arith, subst, length}
+use Rattle.std.proofs.Common.{◌<◌, ap, sym, ◌∙◌, arith, subst, length}
 use Rattle.std.proofs.lemmas.Bool.{and_right, not_from_true, true≢false}
-use Rattle.std.specs.Prelude.{not}
 use Rattle.comp_tree.specs.Windows.{Box}
-use Rattle.tile_laws.specs.Knowing.{IsSettled, node_box}
+use Rattle.tile_laws.specs.Knowing.{IsSettled}
 use Rattle.tile_laws.specs.Extents.{extent_box}
-use Rattle.tile_laws.specs.Opening.{is_whole_at, is_settled, IsBoxOf}
+use Rattle.tile_laws.specs.Opening.{is_whole_at, IsBoxOf}
 use Rattle.tile_laws.proofs.NodeBoxes.{entry_inside, boxed, nothing_opened, none_opened, one_opened, passed_over, settled_up_to}
 use Rattle.tile_laws.proofs.Fewer.{few_of_tree, few_is}
 use Rattle.tile_laws.proofs.Opened.{whole_told, settled_told, none_opened_yet, one_more, no_more, none_more, all_opened}

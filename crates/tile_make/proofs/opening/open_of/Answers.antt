@@ -3,8 +3,8 @@ use Rattle.std.proofs.lemmas.Result.{IfOk-weaker}
 use Rattle.tile_make.proofs.Telling.{known_from}
 use Rattle.tile_make.proofs.opening.open_of.Goals as goal
 
-pub returns : goal.returns
-returns c =
+pub returns-clause-known : goal.returns-clause-known
+returns-clause-known c =
     IfOk-weaker c.open_boxes.result _ _
     (λ boxes settled none plane connect is are.
     known_from plane connect c.args.choice.now c.args.place.now c.args.sure c.in-Some.known c.args.tree.now c.args.sums.now
