@@ -47,6 +47,10 @@ module _ (flat : Bool) (mesh : ℕ) (place : TilePlace) (image : Raster) where
 
 -- ---- the open boxes
 
+pub none_from : (o : Option Extent) → ((x : Extent) → o ≡ Some x → ⊥) → o ≡ None
+none_from None h = refl
+none_from (Some x) h = absurd (h x refl)
+
 module _ (threshold : ℤ) (place : TilePlace) (rows : List NodeRow) (sums : List Sums) (core : Extent) (is : extent_box core ≡ core_box place) where
   one_core : core ∷ [] ≡ box_extent (core_box place) ∷ []
   one_core = ap (λ (b : Box). box_extent b ∷ []) is

@@ -1,11 +1,12 @@
 -- The cells of a mesh that are marked, and whether all are.
 use Rattle.std.proofs.Common.{◌≡◌, ℕ, ◌+◌, ◌<◌, ◌≤◌, ◌↔◌, Bool, true, false, not, List, length, refl, sym, ◌∙◌, ap, subst, arith, ◌⊎◌, inl, inr, get_or, set}
 use Rattle.std.specs.Prelude.{IsTrue, ◌==◌, filter}
-use Rattle.std.specs.List.{Any, list_any, list_all, range_with_len}
+use Rattle.std.specs.List.{list_any, list_all, range_with_len}
 use Rattle.std.proofs.lemmas.Bool.{cases_eq, cases_lt, eqb-true, eq-eqb, false_from_ne_true, true_from_ne_false, true≢false}
 use Rattle.std.proofs.lemmas.List.{get_or-set_same, get_or-set_other}
-use Rattle.std.proofs.lemmas.List.Folds.{Any-from_list_any, list_any_at}
-use Rattle.lemmas.proofs.Exported.{IsWitness, among-filter, among-range, among_from_filter, among_from_range, any_from_among, witness_from_any}
+use Rattle.std.proofs.lemmas.List.Elements.{All-from_get_or}
+use Rattle.std.proofs.lemmas.List.Sums.{AllPass-from_list_all, list_all-from_AllPass}
+use Rattle.lemmas.proofs.Exported.{same_bool, IsWitness, among-filter, among-range, among_from_filter, among_from_range, any_from_among, witness_from_any}
 use Rattle.comp_tree.specs.Raster.{Raster, is_defined, pixels}
 use Rattle.comp_tree.proofs.Exported.{all_from, all_gives, among_from_defined, below_from_defined}
 use Rattle.mesh_background.specs.Mesh.{cell_count, cell_pixels, mesh_cell_of}
@@ -83,15 +84,19 @@ module _ (s : Raster) (mesh : ℕ) where
               let e : b ≡ p = omega (arith, g, below) in
               absurd (true≢false (sym (subst (λ (x : ℕ). is_defined s x ≡ true) e d) ∙ none))
 
-  -- all cells are marked, or one isn't
-  pub marked_full : (found : List Bool) → length found ≡ cell_count mesh s.shape → AreMarkedCells s mesh (length s.values) found
-      → ((k : ℕ) → k < length found → get_or found k false ≡ true) → has_full_mesh s mesh ≡ true
-  marked_full found one_each marked each = (full_mesh_says s mesh).1 (λ k below. marked.each k (each k (omega (arith, below, one_each))))
-
-  pub marked_gap : (found : List Bool) (k : ℕ) → length found ≡ cell_count mesh s.shape → AreMarkedCells s mesh (length s.values) found
-      → k < length found → get_or found k false ≡ false → has_full_mesh s mesh ≡ false
-  marked_gap found k one_each marked within gap = false_from_ne_true (has_full_mesh s mesh) (λ full. by ((full_mesh_says s mesh).0 full k (omega (arith, within, one_each))))
+  -- all cells are marked exactly where the mesh is full
+  pub marked_told : (found : List Bool) → length found ≡ cell_count mesh s.shape → AreMarkedCells s mesh (length s.values) found
+      → list_all (λ b. b) found ≡ has_full_mesh s mesh
+  marked_told found one_each marked = same_bool (list_all (λ b. b) found) (has_full_mesh s mesh) there back
     where
-      by : (b : ℕ) × IsTrue (is_defined s b) × (cell b ≡ k) → ⊥
-      by (b, d, e) =
-          true≢false (sym (subst (λ (j : ℕ). get_or found j false ≡ true) e (marked.all b (below_from_defined s b d) d)) ∙ gap)
+      there : list_all (λ b. b) found ≡ true → has_full_mesh s mesh ≡ true
+      there k = (full_mesh_says s mesh).1 (λ j below. marked.each j (AllPass-from_list_all (λ b. b) found k j false (omega (arith, below, one_each))))
+
+      each : HasFullMesh s mesh → (j : ℕ) → j < length found → get_or found j false ≡ true
+      each full j l = go (full j (omega (arith, l, one_each)))
+        where
+          go : (b : ℕ) × IsTrue (is_defined s b) × (cell b ≡ j) → get_or found j false ≡ true
+          go (b, d, e) = subst (λ (x : ℕ). get_or found x false ≡ true) e (marked.all b (below_from_defined s b d) d)
+
+      back : has_full_mesh s mesh ≡ true → list_all (λ b. b) found ≡ true
+      back k = list_all-from_AllPass (λ b. b) found (All-from_get_or (λ b. b ≡ true) found false (each ((full_mesh_says s mesh).0 k)))

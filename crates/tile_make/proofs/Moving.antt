@@ -106,20 +106,20 @@ pub moved_fits : (r : Raster) (connect : Connect) (number n : ℕ) (whole : Shap
     → r.shape ≡ w.shape → IsInside whole w → row ≡ catalogue_row r connect number n → FitsColumns row → IsCentred row
     → FirstStandsIn whole (moved_row w row) → FitsColumns (moved_row w row)
 unfolding moved_row catalogue_row measured_row
-moved_fits r connect number n whole w row plane node same inside is fits centred first = record {
-  number = fits.number;
-  area = fits.area;
+moved_fits r connect number n whole w row plane node same inside is columns centred first = record {
+  number = columns.number;
+  area = columns.area;
   xmin = moved_side row.xmin s.xmin w.left (ap (λ (x : CatRow). x.xmin) is) (omega (arith, box.columns, box.right, wide)) left;
   xmax = moved_side row.xmax s.xmax w.left (ap (λ (x : CatRow). x.xmax) is) (omega (arith, box.right, wide)) left;
   ymin = moved_side row.ymin s.ymin w.top (ap (λ (x : CatRow). x.ymin) is) (omega (arith, box.rows, box.bottom, high)) top;
   ymax = moved_side row.ymax s.ymax w.top (ap (λ (x : CatRow). x.ymax) is) (omega (arith, box.bottom, high)) top;
   xfirst =
-      let a : pos 1 ≤ℤ row.xfirst +ℤ pos w.left = first.left in
-      let b : row.xfirst +ℤ pos w.left ≤ℤ pos whole.width = first.right in
+      let a : pos 1 ≤ℤ (row.xfirst +ℤ pos w.left) = first.left in
+      let b : (row.xfirst +ℤ pos w.left) ≤ℤ pos whole.width = first.right in
       record { low = omega (arith, ints, a); high = omega (arith, ints, b, whole_wide) };
   yfirst =
-      let a : pos 1 ≤ℤ row.yfirst +ℤ pos w.top = first.top in
-      let b : row.yfirst +ℤ pos w.top ≤ℤ pos whole.height = first.bottom in
+      let a : pos 1 ≤ℤ (row.yfirst +ℤ pos w.top) = first.top in
+      let b : (row.yfirst +ℤ pos w.top) ≤ℤ pos whole.height = first.bottom in
       record { low = omega (arith, ints, a); high = omega (arith, ints, b, whole_high) };
   xcen =
       moved_centre row.xcen row.xmin row.xmax s.xmin s.xmax w.left (ap (λ (x : CatRow). x.xmin) is) (ap (λ (x : CatRow). x.xmax) is)

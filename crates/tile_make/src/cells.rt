@@ -1,6 +1,7 @@
 //! The box of an image in which a window's background is the image's own.
 
 ghost use Rattle.std.specs.Prelude.{◌≡◌, ◌+◌, ◌≤◌, ◌<◌, ◌*◌, IfOk, IfSome, IsTrue, length};
+ghost use Rattle.std.specs.List.{list_all};
 ghost use Rattle.comp_tree.specs.Windows.{IsInside};
 ghost use Rattle.mesh_background.specs.Mesh.{cell_count, cells_along, mesh_cell_of};
 ghost use Rattle.orders.specs.Words.{HasLimits};
@@ -51,7 +52,13 @@ fn has_full_mesh(alloc: Global, image: &Plane, mesh: u32) -> Result<bool, OutOfM
     let cells = cells_of(image.shape(), mesh);
     let mut found = vec![in alloc; false; cells as usize]?;
     mark_cells(image, mesh, &mut found);
-    Ok(found.iter().all(|has_pixel| *has_pixel))
+    Ok(are_all_marked(&found))
+}
+
+fn are_all_marked(found: &[bool]) -> bool
+    ensures { result ≡ list_all (λ marked. marked) found.now }
+{
+    found.iter().all(|has_pixel| *has_pixel)
 }
 
 // Marks the cells that have pixels with values.

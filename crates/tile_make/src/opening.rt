@@ -1,6 +1,6 @@
 //! Of which components a window may not know all.
 
-ghost use Rattle.std.specs.Prelude.{◌≡◌, ◌+◌, ◌<◌, ◌≤◌, ◌↔◌, [], ◌∷◌, IfOk, IsTrue, length};
+ghost use Rattle.std.specs.Prelude.{◌≡◌, ◌+◌, ◌<◌, ◌≤◌, ◌↔◌, ◌&&◌, nat_le, [], ◌∷◌, IfOk, IsTrue, length};
 ghost use Rattle.std.specs.List.{All};
 ghost use Rattle.comp_tree.specs.Windows.{IsInside};
 ghost use Rattle.node_sums.specs.Sums.{AreTheTrees, ForEachPlaneOf};
@@ -62,6 +62,7 @@ fn all_open(alloc: Global, core: Extent) -> Result<Vec<Extent>, AllocError>
 }
 
 // Whether a box lies in another one.
+#[tactic(auto, unfolding(tile_laws::specs::Opening::is_box_within))]
 fn lies_within(inner: &Extent, outer: &Extent) -> bool
     ensures exact { result ≡ is_box_within (extent_box outer.now) (extent_box inner.now) }
     ensures within { IsTrue result ↔ IsBoxWithin (extent_box outer.now) (extent_box inner.now) }
@@ -71,7 +72,8 @@ fn lies_within(inner: &Extent, outer: &Extent) -> bool
 
 // The same along one side.
 fn lies_along(inner: &Interval, outer: &Interval) -> bool
-    ensures { IsTrue result ↔ (outer.now.from ≤ inner.now.from) × (inner.now.to ≤ outer.now.to) }
+    ensures exact { result ≡ (nat_le outer.now.from inner.now.from && nat_le inner.now.to outer.now.to) }
+    ensures within { IsTrue result ↔ (outer.now.from ≤ inner.now.from) × (inner.now.to ≤ outer.now.to) }
 {
     outer.from <= inner.from && inner.to <= outer.to
 }
