@@ -6,3 +6,5 @@ pub use Rattle.tile_laws.proofs.Sure.{IsPlacedIn, placed_in, in_from_placed, IsS
 pub use Rattle.tile_laws.proofs.Lists.{IsImageOf, image_of, get_among, rows_from, IsRowOf, row_of}
 -- lists that rise by a number of each member, and have the same members, are the same
 pub use Rattle.tile_laws.proofs.Lists.{rising_equal}
+-- the box of a node lies in its plane
+pub use Rattle.tile_laws.proofs.NodeBoxes.{box_in}

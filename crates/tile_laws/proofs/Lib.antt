@@ -11,4 +11,7 @@ mod Measured
 mod Backed
 mod Existing
 mod NodeBoxes
+mod Testing
+mod Opened
+mod Fewer
 pub mod Exported

@@ -2,7 +2,7 @@
 use Rattle.std.proofs.Common.{◌≡◌, ℕ, ◌+◌, ◌-◌, ◌/◌, ◌%◌, ◌^◌, ◌<◌, ◌≤◌, ◌↔◌, List, [], ◌∷◌, ◌++◌, length, Some, refl, sym, ◌∙◌, ap, subst, arith, ◌⊎◌, inl, inr, get_or}
 use Rattle.std.specs.Prelude.{IsTrue, true, ℤ, ◌≤ℤ◌, ◌<ℤ◌, int_le, int_lt, slice_get}
 use Rattle.std.specs.List.{All}
-use Rattle.std.proofs.lemmas.List.Elements.{All-push}
+use Rattle.std.proofs.lemmas.List.Elements.{All-nil, All-push, All-same}
 use Rattle.std.proofs.lemmas.Nat.{mod_below}
 use Rattle.std.proofs.lemmas.List.FromFn.{get_or-map-range_with_len}
 use Rattle.std.proofs.lemmas.Option.{get_or_from_slice_get, slice_get-get_or}
@@ -58,7 +58,7 @@ in_box r connect n p k = record {
     there : IsAmong p (pixels_of r connect n)
     there = among_pixels r connect n p k
 
-box_in : (r : Raster) (connect : Connect) (n : ℕ) → IsPlane r → n < length (nodes r connect) → HasBoxIn r.shape (sums_of r connect n)
+pub box_in : (r : Raster) (connect : Connect) (n : ℕ) → IsPlane r → n < length (nodes r connect) → HasBoxIn r.shape (sums_of r connect n)
 unfolding sums_of sums_over
 box_in r connect n plane hn = record {
   left = let a : 1 ≤ least (x_of r) (pixels_of r connect n) = least_from (x_of r) 1 (pixels_of r connect n) (omega arith) (λ p m. omega arith) in omega (arith, a);
@@ -310,3 +310,12 @@ passed_over threshold rows sums left top whole core sure n boxes now before same
     settled m entry (inl l) none below entry_is is_whole = before.0 none m entry l entry_is is_whole
     settled m entry (inr g) none below entry_is is_whole =
         absurd (other (subst (λ (k : ℕ). IsWholeAt threshold rows k) (omega (arith, g, below)) is_whole))
+
+-- of no node is anything to be said
+pub nothing_opened : (threshold : ℤ) (rows : List NodeRow) (sums : List Sums) (left top : ℕ) (whole : Shape) (core sure : Box) (now : List Extent) → now ≡ []
+    → AreOpenBoxes threshold rows sums left top whole core sure 0 now
+nothing_opened threshold rows sums left top whole core sure now none = (
+  (λ same m entry below. absurd (omega (arith, below))),
+  All-same (λ found. IsUnsettled threshold rows sums left top whole core sure (extent_box found)) now [] none
+      (All-nil (λ found. IsUnsettled threshold rows sums left top whole core sure (extent_box found))),
+)

@@ -9,3 +9,10 @@ extent_box e = record {
   top = e.rows.from;
   bottom = e.rows.to;
 }
+
+-- and the other way round
+abbrev pub box_extent : Box → Extent
+box_extent b = record {
+  columns = record { from = b.left; to = b.right };
+  rows = record { from = b.top; to = b.bottom };
+}

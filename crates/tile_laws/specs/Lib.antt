@@ -4,4 +4,5 @@ pub mod Laws
 pub mod Extents
 pub mod SecondImage
 pub mod Knowing
+pub mod Opening
 pub mod Boxed

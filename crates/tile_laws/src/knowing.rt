@@ -9,6 +9,7 @@ ghost use Rattle.node_sums.specs.Sums.{AreTheTrees};
 ghost use Rattle.source_sheet.specs.Laid.{window_at};
 ghost use Rattle.tile_laws.specs.Extents.{extent_box};
 ghost use Rattle.tile_laws.specs.Knowing.{HasBoxIn, node_box, DoMeet, IsSettled, IsWholeAt, AreSettled, IsUnsettled};
+ghost use Rattle.tile_laws.specs.Opening.{IsBoxOf, open_extents};
 ghost use Rattle.tile_laws.specs.Boxed.{DoMeetAlong};
 
 use crate::extents::{Extent, Interval, lies_deep};
@@ -26,8 +27,8 @@ pub struct WindowPlace {
     pub whole: Shape,
 }
 
-/// The boxes, in the image, of the components at the threshold of which a window may not know all: their boxes meet the core and don't lie deep in the
-/// sure box, so a window around them is to be looked at. Where there are none the window knows its core
+/// The boxes, in the image, of the components at the threshold of which a window may not know all, in the order of the tree's nodes: their boxes meet the
+/// core and don't lie deep in the sure box, so a window around them is to be looked at. Where there are none the window knows its core
 /// ([`boxes_tell_the_core`](crate::laws::boxes_tell_the_core)). The one error is that memory was refused.
 pub fn open_boxes(
     alloc: Global,
@@ -40,6 +41,10 @@ pub fn open_boxes(
 ) -> Result<Vec<Extent>, OutOfMemory>
     requires sums { AreTheTrees tree.now sums.now }
     requires inside { IsInside place.now.whole (window_at place.now.left place.now.top tree.now.shape) }
+    ensures exact { IfOk result (λ boxes. boxes.items ≡ open_extents choice.now.threshold tree.now.rows sums.now
+        place.now.left place.now.top place.now.whole (extent_box core.now) (extent_box sure.now)) }
+    ensures inside { IfOk result (λ boxes. All (λ found. IsBoxOf place.now.whole (extent_box found)) boxes.items) }
+    ensures few { IfOk result (λ boxes. length boxes.items ≤ 2147483644) }
     ensures known { IfOk result (λ boxes. boxes.items ≡ [] → AreSettled choice.now.threshold tree.now.rows sums.now
         place.now.left place.now.top place.now.whole (extent_box core.now) (extent_box sure.now) (length tree.now.rows)) }
     ensures unsettled { IfOk result (λ boxes. All (λ found. IsUnsettled choice.now.threshold tree.now.rows sums.now
@@ -101,6 +106,7 @@ pub fn box_of(sums: &Sums, tree: &Tree, place: &WindowPlace) -> Extent
     ensures columns { result.columns.from < result.columns.to }
     ensures rows { result.rows.from < result.rows.to }
     ensures inside { result.columns.to ≤ place.now.whole.width }
+    ensures below { result.rows.to ≤ place.now.whole.height }
 {
     // for its clauses alone: a shape has short sides
     let _shape = tree.shape();

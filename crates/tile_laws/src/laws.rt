@@ -13,6 +13,7 @@ ghost use Rattle.tile_laws.specs.Laws.{
   PiecesGiveThePlanesCatalogue,
 };
 ghost use Rattle.tile_laws.specs.Knowing.{BoxesTellTheCore, KnownCoresAreAnswered};
+ghost use Rattle.tile_laws.specs.Opening.{WholeTestIsExact, MeetingTestIsExact, WithinTestIsExact, SettledTestIsExact};
 
 use comp_tree::laws::sure_components_are_the_same;
 use mesh_background::laws::{no_mesh_leaves_the_plane, residual_is_a_plane, residual_is_seen};
@@ -58,4 +59,12 @@ pub fn pieces_give_the_planes_catalogue()
 pub fn boxes_tell_the_core()
     ensures told { BoxesTellTheCore }
     ensures answered { KnownCoresAreAnswered }
+{}
+
+/// What the tests say by which [`open_boxes`](crate::open_boxes) is defined.
+pub fn box_tests_are_exact()
+    ensures whole { WholeTestIsExact }
+    ensures meeting { MeetingTestIsExact }
+    ensures within { WithinTestIsExact }
+    ensures settled { SettledTestIsExact }
 {}

@@ -1,4 +1,7 @@
 mod Meshing
+mod Marked
+mod Storing
+mod Exactly
 mod Moving
 mod Telling
 mod Made

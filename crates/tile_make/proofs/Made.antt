@@ -16,6 +16,8 @@ use Rattle.mesh_background.specs.Mesh.{cells_along, cell_count, mesh_cell_of}
 use Rattle.mesh_background.specs.Residuals.{residual_of}
 use Rattle.mesh_background.specs.Windows.{HasDefinedCellsIn}
 use Rattle.mesh_background.proofs.Exported.{residual_shape}
+use Rattle.comp_tree.specs.Components.{tree_of}
+use Rattle.node_sums.specs.Sums.{sums_in}
 use Rattle.source_pick.specs.declared.choice.Choice.{Choice}
 use Rattle.source_pick.specs.declared.catalogue.CatRow.{CatRow}
 use Rattle.source_pick.specs.Catalogue.{catalogue, moved_row}
@@ -34,7 +36,8 @@ use Rattle.tile_join.specs.Tiles.{window_of, is_in_frame}
 use Rattle.tile_join.specs.Made.{own_rows, piece_of, IsTileMade}
 use Rattle.tile_make.specs.declared.placing.TilePlace.{TilePlace}
 use Rattle.tile_make.specs.Placed.{window_of_place, detection_of}
-use Rattle.tile_make.specs.Told.{MakingLaws, HasFullMesh, IsPlacedWell, IsSureExtent, IsKnown, IsTold, own_of}
+use Rattle.tile_make.specs.TileOf.{frame_at, kept_of, left_open, own_of, sure_extent_of, IsTileOfWindow}
+use Rattle.tile_make.specs.Told.{MakingLaws, HasFullMesh, IsPlacedWell, IsSureExtent, IsKnown, IsTold}
 
 -- ---- the plane that is kept
 
@@ -153,7 +156,7 @@ module _ (laws : MakingLaws) (order : Order) (choice : Choice) (place : TilePlac
   left_shape = residual_shape image order.mesh order.flat
 
   window_is : window_of t.window ≡ w
-  window_is = told.window ∙ ap (window_of_place place) k_shape
+  window_is = ap window_of told.window ∙ ap (window_of_place place) k_shape
 
   found_is : detected d image ≡ detected d (seen_through (window_of t.window) r)
   found_is = ap (detected d) (sym seen) ∙ ap (λ (v : Window). detected d (seen_through v r)) (sym window_is)
@@ -232,8 +235,32 @@ module _ (laws : MakingLaws) (order : Order) (choice : Choice) (place : TilePlac
     whole = told.whole ∙ sym shape;
     inside = subst (λ (v : Window). IsInside r.shape v) (sym window_is) inside;
     rows = own_from place k.shape r.shape.width t.window t.core t.rows.items (catalogue k order.connect choice) d
-        (seen_through (window_of t.window) r) (ap (λ (s : Shape). s.width) (sym shape)) told.core told.window told.rows
+        (seen_through (window_of t.window) r) (ap (λ (s : Shape). s.width) (sym shape)) told.core (ap window_of told.window) told.rows
         (sym same.rows ∙ found_is);
     map = told.map ∙ sym same.numbers ∙ ap (mapped d) (sym seen) ∙ ap (λ (v : Window). mapped d (seen_through v r)) (sym window_is);
     answers = λ none. subst (AnswersForCore d r) piece_is (answers_piece none);
   }
+
+-- and one that is told to the last number
+pub tile_of_window : (order : Order) (choice : Choice) (place : TilePlace) (image k : Raster) (sure : Option Extent) (t : TileCatalogue)
+    → sure ≡ sure_extent_of order.flat order.mesh place image → k ≡ kept_of order choice image
+    → HaveSameSources (residual_of image order.mesh order.flat) k order.connect choice → IsTold k order.connect choice place sure t
+    → IsTileOfWindow order choice place image t
+tile_of_window order choice place image k sure t sure_is k_is same told = record {
+  whole = told.whole;
+  window = told.window ∙ ap (frame_at place.left place.top) k_shape;
+  core = told.core;
+  rows =
+      told.rows ∙ ap (λ (s : Shape). own_of place s (catalogue k order.connect choice)) k_shape ∙ ap (own_of place image.shape) (sym same.rows);
+  map = told.map ∙ sym same.numbers;
+  «open» =
+      told.open
+      ∙ ap (λ (o : Option Extent). left_open choice.threshold place o (tree_of k order.connect).rows (sums_in k order.connect)) sure_is
+      ∙ ap (λ (x : Raster). left_open choice.threshold place (sure_extent_of order.flat order.mesh place image) (tree_of x order.connect).rows
+      (sums_in x order.connect)) k_is;
+}
+  where
+    k_shape : k.shape ≡ image.shape
+    k_shape =
+        ap (λ (x : Raster). x.shape) k_is ∙ shape-kept (residual_of image order.mesh order.flat) order.connect choice.threshold
+        ∙ residual_shape image order.mesh order.flat

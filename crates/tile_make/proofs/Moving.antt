@@ -15,16 +15,20 @@ use Rattle.comp_tree.specs.Raster.{Raster, IsPlane}
 use Rattle.comp_tree.specs.Laws.{IsNode}
 use Rattle.comp_tree.specs.Windows.{Window, IsInside}
 use Rattle.comp_tree.proofs.Exported.{below_from_defined, in_node-defined, row_below}
+use Rattle.node_sums.specs.declared.entry.Sums.{Sums}
 use Rattle.node_sums.specs.Sums.{sums_of}
 use Rattle.node_sums.proofs.Exported.{fits}
 use Rattle.source_pick.specs.declared.catalogue.CatRow.{CatRow}
-use Rattle.source_pick.specs.Catalogue.{catalogue_of, catalogue_row, measured_row, moved_row, FitsColumn}
+use Rattle.source_pick.specs.Catalogue.{catalogue_of, catalogue_row, measured_row, moved_row, FitsColumn, FitsColumns, IsCentred}
 use Rattle.source_pick.proofs.Exported.{first_inside}
+use Rattle.tile_laws.specs.Knowing.{HasBoxIn}
 use Rattle.tile_laws.specs.Pieces.{first_pixel}
+use Rattle.tile_laws.proofs.Exported.{box_in}
 use Rattle.tile_join.specs.Tiles.{is_in_frame}
 use Rattle.tile_make.specs.declared.placing.TilePlace.{TilePlace}
 use Rattle.tile_make.specs.Placed.{window_of_place}
-use Rattle.tile_make.specs.Told.{own_of, FirstStandsIn}
+use Rattle.tile_make.specs.TileOf.{own_of}
+use Rattle.tile_make.specs.Told.{FirstStandsIn}
 
 column_fits : (z : ℤ) → FitsColumn z → SFits w64 z
 column_fits z k =
@@ -86,6 +90,68 @@ first_stands r connect number n whole w plane node same inside = record {
 
     high : r.shape.height ≡ w.shape.height
     high = ap (λ (s : Shape). s.height) same
+
+-- and its numbers fit their columns
+moved_side : (z : ℤ) (k a : ℕ) → z ≡ pos k → k ≤ 65535 → a ≤ 65535 → FitsColumn (z +ℤ pos a)
+moved_side z k a is few small = record { low = omega (arith, ints, is, few, small); high = omega (arith, ints, is, few, small) }
+
+moved_centre : (z x y : ℤ) (k l a : ℕ) → x ≡ pos k → y ≡ pos l → l ≤ 65535 → a ≤ 65535 → (pos 1000 *ℤ x) ≤ℤ z → z ≤ℤ (pos 1000 *ℤ y)
+    → FitsColumn (z +ℤ pos (1000 * a))
+moved_centre z x y k l a x_is y_is few small above below = record {
+  low = omega (arith, ints, x_is, small, above);
+  high = omega (arith, ints, y_is, few, small, below);
+}
+
+pub moved_fits : (r : Raster) (connect : Connect) (number n : ℕ) (whole : Shape) (w : Window) (row : CatRow) → IsPlane r → IsNode r connect n
+    → r.shape ≡ w.shape → IsInside whole w → row ≡ catalogue_row r connect number n → FitsColumns row → IsCentred row
+    → FirstStandsIn whole (moved_row w row) → FitsColumns (moved_row w row)
+unfolding moved_row catalogue_row measured_row
+moved_fits r connect number n whole w row plane node same inside is columns centred first = record {
+  number = columns.number;
+  area = columns.area;
+  xmin = moved_side row.xmin s.xmin w.left (ap (λ (x : CatRow). x.xmin) is) (omega (arith, box.columns, box.right, wide)) left;
+  xmax = moved_side row.xmax s.xmax w.left (ap (λ (x : CatRow). x.xmax) is) (omega (arith, box.right, wide)) left;
+  ymin = moved_side row.ymin s.ymin w.top (ap (λ (x : CatRow). x.ymin) is) (omega (arith, box.rows, box.bottom, high)) top;
+  ymax = moved_side row.ymax s.ymax w.top (ap (λ (x : CatRow). x.ymax) is) (omega (arith, box.bottom, high)) top;
+  xfirst =
+      let a : pos 1 ≤ℤ (row.xfirst +ℤ pos w.left) = first.left in
+      let b : (row.xfirst +ℤ pos w.left) ≤ℤ pos whole.width = first.right in
+      record { low = omega (arith, ints, a); high = omega (arith, ints, b, whole_wide) };
+  yfirst =
+      let a : pos 1 ≤ℤ (row.yfirst +ℤ pos w.top) = first.top in
+      let b : (row.yfirst +ℤ pos w.top) ≤ℤ pos whole.height = first.bottom in
+      record { low = omega (arith, ints, a); high = omega (arith, ints, b, whole_high) };
+  xcen =
+      moved_centre row.xcen row.xmin row.xmax s.xmin s.xmax w.left (ap (λ (x : CatRow). x.xmin) is) (ap (λ (x : CatRow). x.xmax) is)
+      (omega (arith, box.right, wide)) left centred.left centred.right;
+  ycen =
+      moved_centre row.ycen row.ymin row.ymax s.ymin s.ymax w.top (ap (λ (x : CatRow). x.ymin) is) (ap (λ (x : CatRow). x.ymax) is)
+      (omega (arith, box.bottom, high)) top centred.bottom centred.top;
+}
+  where
+    s : Sums
+    s = sums_of r connect n
+
+    box : HasBoxIn r.shape (sums_of r connect n)
+    box = box_in r connect n plane node
+
+    wide : r.shape.width ≤ 65535
+    wide = r.shape.within_limits.few_columns
+
+    high : r.shape.height ≤ 65535
+    high = r.shape.within_limits.few_rows
+
+    whole_wide : whole.width ≤ 65535
+    whole_wide = whole.within_limits.few_columns
+
+    whole_high : whole.height ≤ 65535
+    whole_high = whole.within_limits.few_rows
+
+    left : w.left ≤ 65535
+    left = omega (arith, inside.columns, whole_wide)
+
+    top : w.top ≤ 65535
+    top = omega (arith, inside.rows, whole_high)
 
 -- ---- rows one behind the other
 

@@ -1,5 +1,5 @@
 -- Bookkeeping: what is known on the way to a tile.
-use Rattle.std.specs.Prelude.{◌≡◌, ℕ, ◌<◌, Bool, true, false, IsTrue, slice_index_or, List, [], length, map, filter, Option, Some, pos, ◌≤ℤ◌}
+use Rattle.std.specs.Prelude.{◌≡◌, ℕ, ◌<◌, Bool, true, false, IsTrue, slice_index_or, List, [], length, Option, Some, pos, ◌≤ℤ◌}
 use Rattle.comp_tree.specs.declared.shape.Shape.{Shape}
 use Rattle.comp_tree.specs.declared.shape.Connect.{Connect}
 use Rattle.comp_tree.specs.Raster.{Raster, is_defined}
@@ -11,7 +11,7 @@ use Rattle.mesh_background.specs.Laws.{ResidualIsPlane}
 use Rattle.node_sums.specs.Sums.{sums_in}
 use Rattle.source_pick.specs.declared.choice.Choice.{Choice}
 use Rattle.source_pick.specs.declared.catalogue.CatRow.{CatRow}
-use Rattle.source_pick.specs.Catalogue.{catalogue, moved_row}
+use Rattle.source_pick.specs.Catalogue.{catalogue}
 use Rattle.source_pick.specs.Segmentation.{segmentation}
 use Rattle.source_pick.specs.Locality.{KeptIsAPlane}
 use Rattle.tile_laws.specs.declared.extents.Extent.{Extent}
@@ -19,11 +19,11 @@ use Rattle.tile_laws.specs.Clear.{clear_box, window_box, IsBoxWithin}
 use Rattle.tile_laws.specs.Extents.{extent_box}
 use Rattle.tile_laws.specs.Knowing.{AreSettled, BoxesTellTheCore, KnownCoresAreAnswered}
 use Rattle.tile_laws.specs.Laws.{FlatBoxesAreSure}
-use Rattle.tile_laws.specs.Pieces.{first_pixel}
 use Rattle.tile_join.specs.declared.tiles.TileCatalogue.{TileCatalogue}
-use Rattle.tile_join.specs.Tiles.{window_of, is_in_frame}
+use Rattle.tile_join.specs.Tiles.{window_of}
 use Rattle.tile_make.specs.declared.placing.TilePlace.{TilePlace}
 use Rattle.tile_make.specs.Placed.{window_of_place}
+use Rattle.tile_make.specs.TileOf.{frame_at, left_open, own_of}
 
 -- the place is one of a tile: the core lies in the window of this shape, this in the image, and its corner stands on the mesh
 pub record IsPlacedWell (place : TilePlace) (shape : Shape) (mesh : ℕ) : Type 0 where
@@ -38,8 +38,9 @@ pub record FirstStandsIn (whole : Shape) (row : CatRow) : Type 0 where
   pub top : pos 1 ≤ℤ row.yfirst
   pub bottom : row.yfirst ≤ℤ pos whole.height
 
--- each cell of a plane's mesh that is marked has a defined pixel
-pub record AreMarkedCells (s : Raster) (mesh : ℕ) (found : List Bool) : Type 0 where
+-- the cells of a plane's mesh that have one of the first pixels, a defined one, are marked, and others aren't
+pub record AreMarkedCells (s : Raster) (mesh count : ℕ) (found : List Bool) : Type 0 where
+  pub all : (b : ℕ) → b < count → IsTrue (is_defined s b) → slice_index_or found (mesh_cell_of mesh s.shape.width b) false ≡ true
   pub each : (k : ℕ) → slice_index_or found k false ≡ true → (b : ℕ) × IsTrue (is_defined s b) × (mesh_cell_of mesh s.shape.width b ≡ k)
 
 -- each cell of a plane's mesh has a defined pixel
@@ -50,11 +51,6 @@ HasFullMesh s mesh = (k : ℕ) → k < cell_count mesh s.shape → (b : ℕ) × 
 pub record IsSureExtent (flat : Bool) (mesh : ℕ) (s : Raster) (place : TilePlace) (sure : Extent) : Type 0 where
   pub box : extent_box sure ≡ clear_box flat mesh place.whole (window_of_place place s.shape)
   pub full : flat ≡ false → 0 < mesh → HasFullMesh s mesh
-
--- some rows, moved to the image; those whose first pixels lie in the core
-unfoldable pub own_of : TilePlace → Shape → List CatRow → List CatRow
-own_of place shape rows =
-    filter (λ row. is_in_frame place.whole.width place.core (first_pixel place.whole.width row)) (map (moved_row (window_of_place place shape)) rows)
 
 -- nothing is open: the core lies in the sure box, and the whole components of the plane that meet it are settled
 pub record IsKnown (k : Raster) (connect : Connect) (choice : Choice) (place : TilePlace) (sure : Option Extent) : Type 0 where
@@ -67,10 +63,11 @@ pub record IsKnown (k : Raster) (connect : Connect) (choice : Choice) (place : T
 -- the tile tells what was found in plane k
 pub record IsTold (k : Raster) (connect : Connect) (choice : Choice) (place : TilePlace) (sure : Option Extent) (t : TileCatalogue) : Type 0 where
   pub whole : t.whole ≡ place.whole
-  pub window : window_of t.window ≡ window_of_place place k.shape
+  pub window : t.window ≡ frame_at place.left place.top k.shape
   pub core : t.core ≡ place.core
   pub rows : t.rows.items ≡ own_of place k.shape (catalogue k connect choice)
   pub map : t.map.items ≡ segmentation k connect choice
+  pub «open» : t.open.items ≡ left_open choice.threshold place sure (tree_of k connect).rows (sums_in k connect)
   pub known : t.open.items ≡ [] → IsKnown k connect choice place sure
 
 -- the laws on which a tile stands

@@ -1,10 +1,12 @@
 //! The box of an image in which a window's background is the image's own.
 
-ghost use Rattle.std.specs.Prelude.{◌≡◌, ◌≤◌, ◌<◌, ◌*◌, IfOk, IfSome, IsTrue, length};
+ghost use Rattle.std.specs.Prelude.{◌≡◌, ◌+◌, ◌≤◌, ◌<◌, ◌*◌, IfOk, IfSome, IsTrue, length};
+ghost use Rattle.std.specs.List.{list_all};
 ghost use Rattle.comp_tree.specs.Windows.{IsInside};
 ghost use Rattle.mesh_background.specs.Mesh.{cell_count, cells_along, mesh_cell_of};
 ghost use Rattle.orders.specs.Words.{HasLimits};
 ghost use Rattle.tile_make.specs.Placed.{window_of_place};
+ghost use Rattle.tile_make.specs.TileOf.{has_full_mesh as is_full, sure_extent_of};
 ghost use Rattle.tile_make.specs.Told.{AreMarkedCells, HasFullMesh, IsSureExtent};
 
 use crate::placing::TilePlace;
@@ -24,7 +26,8 @@ pub(crate) fn sure_extent(
 ) -> Result<Option<Extent>, OutOfMemory>
     requires limits { HasLimits order.now }
     requires inside { IsInside place.now.whole (window_of_place place.now image.now.shape) }
-    ensures { IfOk result (λ found. IfSome found (λ sure. IsSureExtent order.now.flat order.now.mesh image.now place.now sure)) }
+    ensures exact { IfOk result (λ found. found ≡ sure_extent_of order.now.flat order.now.mesh place.now image.now) }
+    ensures known { IfOk result (λ found. IfSome found (λ sure. IsSureExtent order.now.flat order.now.mesh image.now place.now sure)) }
 {
     if !order.flat && order.mesh > 0 && !has_full_mesh(alloc, image, order.mesh)? {
         return Ok(None);
@@ -43,12 +46,19 @@ pub(crate) fn sure_extent(
 fn has_full_mesh(alloc: Global, image: &Plane, mesh: u32) -> Result<bool, OutOfMemory>
     requires some { 0 < mesh }
     requires few { mesh ≤ 65535 }
-    ensures { IfOk result (λ full. IsTrue full → HasFullMesh image.now mesh) }
+    ensures exact { IfOk result (λ full. full ≡ is_full image.now mesh) }
+    ensures full { IfOk result (λ full. IsTrue full → HasFullMesh image.now mesh) }
 {
     let cells = cells_of(image.shape(), mesh);
     let mut found = vec![in alloc; false; cells as usize]?;
     mark_cells(image, mesh, &mut found);
-    Ok(found.iter().all(|has_pixel| *has_pixel))
+    Ok(are_all_marked(&found))
+}
+
+fn are_all_marked(found: &[bool]) -> bool
+    ensures { result ≡ list_all (λ marked. marked) found.now }
+{
+    found.iter().all(|has_pixel| *has_pixel)
 }
 
 // Marks the cells that have pixels with values.
@@ -56,9 +66,9 @@ fn mark_cells(image: &Plane, mesh: u32, found: &mut [bool])
     requires some { 0 < mesh }
     requires few { mesh ≤ 65535 }
     requires one_each { length found.old ≡ cell_count mesh image.now.shape }
-    requires marked { AreMarkedCells image.now mesh found.old }
+    requires unmarked { AreMarkedCells image.now mesh 0 found.old }
     ensures one_each { length found.new ≡ cell_count mesh image.now.shape }
-    ensures marked { AreMarkedCells image.now mesh found.new }
+    ensures marked { AreMarkedCells image.now mesh (length image.now.values) found.new }
 {
     for p in 0..image.shape().pixels() {
         mark_cell(image, mesh, p, found);
@@ -71,8 +81,8 @@ fn mark_cell(image: &Plane, mesh: u32, p: u32, found: &mut [bool])
     requires few { mesh ≤ 65535 }
     requires below { p < length image.now.values }
     requires one_each { length found.old ≡ cell_count mesh image.now.shape }
-    requires marked { AreMarkedCells image.now mesh found.old }
-    ensures { AreMarkedCells image.now mesh found.new }
+    requires marked { AreMarkedCells image.now mesh p found.old }
+    ensures { AreMarkedCells image.now mesh (p + 1) found.new }
 {
     if image.get(p).is_some() {
         found[cell_of(image.shape(), mesh, p) as usize] = true;

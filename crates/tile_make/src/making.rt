@@ -8,6 +8,7 @@ ghost use Rattle.orders.specs.Words.{HasLimits};
 ghost use Rattle.source_pick.specs.Locality.{kept, HaveSameSources};
 ghost use Rattle.tile_join.specs.Made.{IsTileMade};
 ghost use Rattle.tile_make.specs.Placed.{is_tile_place, window_of_place, detection_of};
+ghost use Rattle.tile_make.specs.TileOf.{IsTileOfWindow, IsStorable};
 ghost use Rattle.tile_make.specs.Told.{IsPlacedWell, IsTold, MakingLaws};
 
 use crate::cells::sure_extent;
@@ -52,6 +53,8 @@ pub fn make_tile<R: Threads + Sync, G: Gate>(
     requires storable { HasValuesInHalfRange image.values }
     ensures made { IfOk result (λ tile. (r : Raster) → IsPlane r → r.shape ≡ place.now.whole
         → seen_through (window_of_place place.now image.shape) r ≡ image → IsTileMade (detection_of order.now choice.now) r tile) }
+    ensures told { IfOk result (λ tile. IsTileOfWindow order.now choice.now place.now image tile) }
+    ensures storable { IfOk result (λ tile. IsStorable tile) }
     ensures misplaced { result ≡ Err TileStop.Misplaced → is_tile_place place.now image.shape order.now.mesh ≡ false }
 {
     if !is_placed(place, image.shape(), order.mesh) {
@@ -87,8 +90,10 @@ fn make_placed<R: Threads + Sync, G: Gate>(
     requires limits { HasLimits order.now }
     requires contrast { choice.now.contrast ≤ 1000 }
     requires storable { HasValuesInHalfRange image.values }
-    ensures { IfOk result (λ tile. (r : Raster) → IsPlane r → r.shape ≡ place.now.whole
+    ensures made { IfOk result (λ tile. (r : Raster) → IsPlane r → r.shape ≡ place.now.whole
         → seen_through (window_of_place place.now image.shape) r ≡ image → IsTileMade (detection_of order.now choice.now) r tile) }
+    ensures told { IfOk result (λ tile. IsTileOfWindow order.now choice.now place.now image tile) }
+    ensures storable { IfOk result (λ tile. IsStorable tile) }
 {
     laws_of_making();
     let sure = sure_extent(alloc, &image, order, place)?;
@@ -145,7 +150,8 @@ fn tell<R: Threads + Sync, G: Gate>(
     requires placed { IsPlacedWell place.now plane.now.shape order.now.mesh }
     requires limits { HasLimits order.now }
     requires contrast { choice.now.contrast ≤ 1000 }
-    ensures { IfOk result (λ tile. IsTold plane.now order.now.connect choice.now place.now sure tile) }
+    ensures storable { IfOk result (λ tile. IsStorable tile) }
+    ensures told { IfOk result (λ tile. IsTold plane.now order.now.connect choice.now place.now sure tile) }
 {
     let tree = component_tree(
         rt,

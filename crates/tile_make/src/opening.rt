@@ -1,11 +1,14 @@
 //! Of which components a window may not know all.
 
-ghost use Rattle.std.specs.Prelude.{◌≡◌, ◌+◌, ◌<◌, ◌≤◌, ◌↔◌, [], IfOk, IsTrue, length};
+ghost use Rattle.std.specs.Prelude.{◌≡◌, ◌+◌, ◌<◌, ◌≤◌, ◌↔◌, ◌&&◌, nat_le, [], ◌∷◌, IfOk, IsTrue, length};
+ghost use Rattle.std.specs.List.{All};
 ghost use Rattle.comp_tree.specs.Windows.{IsInside};
 ghost use Rattle.node_sums.specs.Sums.{AreTheTrees, ForEachPlaneOf};
 ghost use Rattle.tile_laws.specs.Clear.{IsBoxWithin};
 ghost use Rattle.tile_laws.specs.Extents.{extent_box};
 ghost use Rattle.tile_make.specs.Placed.{window_of_place};
+ghost use Rattle.tile_laws.specs.Opening.{is_box_within, IsBoxOf};
+ghost use Rattle.tile_make.specs.TileOf.{core_box, left_open};
 ghost use Rattle.tile_make.specs.Told.{IsKnown};
 
 use crate::placing::{TilePlace, extent_of};
@@ -29,7 +32,11 @@ pub(crate) fn open_of(
     requires inside { IsInside place.now.whole (window_of_place place.now tree.now.shape) }
     requires columns { place.now.core.left + place.now.core.shape.width ≤ 65535 }
     requires rows { place.now.core.top + place.now.core.shape.height ≤ 65535 }
-    ensures { IfOk result (λ boxes. boxes.items ≡ [] → ForEachPlaneOf tree.now sums.now
+    requires core { IsBoxOf place.now.whole (core_box place.now) }
+    ensures exact { IfOk result (λ boxes. boxes.items ≡ left_open choice.now.threshold place.now sure tree.now.rows sums.now) }
+    ensures inside { IfOk result (λ boxes. All (λ found. IsBoxOf place.now.whole (extent_box found)) boxes.items) }
+    ensures few { IfOk result (λ boxes. length boxes.items ≤ 2147483644) }
+    ensures known { IfOk result (λ boxes. boxes.items ≡ [] → ForEachPlaneOf tree.now sums.now
         (λ plane connect. IsKnown plane connect choice.now place.now sure)) }
 {
     let core = extent_of(&place.core);
@@ -49,21 +56,24 @@ pub(crate) fn open_of(
 
 // The one box of a core of which nothing is known.
 fn all_open(alloc: Global, core: Extent) -> Result<Vec<Extent>, AllocError>
-    ensures { IfOk result (λ boxes. 0 < length boxes.items) }
+    ensures { IfOk result (λ boxes. boxes.items ≡ core ∷ []) }
 {
     vec![in alloc; core; 1]
 }
 
 // Whether a box lies in another one.
+#[tactic(auto, unfolding(tile_laws::specs::Opening::is_box_within))]
 fn lies_within(inner: &Extent, outer: &Extent) -> bool
-    ensures { IsTrue result ↔ IsBoxWithin (extent_box outer.now) (extent_box inner.now) }
+    ensures exact { result ≡ is_box_within (extent_box outer.now) (extent_box inner.now) }
+    ensures within { IsTrue result ↔ IsBoxWithin (extent_box outer.now) (extent_box inner.now) }
 {
     lies_along(&inner.columns, &outer.columns) && lies_along(&inner.rows, &outer.rows)
 }
 
 // The same along one side.
 fn lies_along(inner: &Interval, outer: &Interval) -> bool
-    ensures { IsTrue result ↔ (outer.now.from ≤ inner.now.from) × (inner.now.to ≤ outer.now.to) }
+    ensures exact { result ≡ (nat_le outer.now.from inner.now.from && nat_le inner.now.to outer.now.to) }
+    ensures within { IsTrue result ↔ (outer.now.from ≤ inner.now.from) × (inner.now.to ≤ outer.now.to) }
 {
     outer.from <= inner.from && inner.to <= outer.to
 }

@@ -1,5 +1,6 @@
 //! The rows of a tile.
 
+ghost use Rattle.std.specs.List.{All};
 ghost use Rattle.std.specs.Prelude.{◌≡◌, ◌+◌, ◌<◌, ◌≤◌, ◌&&◌, ◌-◌, ◌++◌, ◌∷◌, [], IfOk, OnOk, filter, length, nat_le, nat_lt, pos, ◌≤ℤ◌, unsigned_abs};
 ghost use Rattle.comp_tree.specs.declared.shape.Shape.{Shape as Sides};
 ghost use Rattle.comp_tree.specs.Windows.{IsInside};
@@ -9,7 +10,8 @@ ghost use Rattle.source_pick.specs.Segmentation.{AreDisjointNodes};
 ghost use Rattle.tile_laws.specs.Pieces.{first_pixel};
 ghost use Rattle.tile_join.specs.Tiles.{is_in_frame};
 ghost use Rattle.tile_make.specs.Placed.{window_of_place};
-ghost use Rattle.tile_make.specs.Told.{own_of, FirstStandsIn};
+ghost use Rattle.tile_make.specs.TileOf.{own_of};
+ghost use Rattle.tile_make.specs.Told.{FirstStandsIn};
 
 use crate::placing::TilePlace;
 use comp_tree::Tree;
@@ -30,8 +32,10 @@ pub(crate) fn own_rows(
     requires sums { AreTheTrees tree.now sums.now }
     requires disjoint { AreDisjointNodes tree.now picked.now }
     requires inside { IsInside place.now.whole (window_of_place place.now tree.now.shape) }
-    ensures { IfOk result (λ rows. ForEachPlaneOf tree.now sums.now
+    ensures exact { IfOk result (λ rows. ForEachPlaneOf tree.now sums.now
         (λ plane connect. rows.items ≡ own_of place.now tree.now.shape (catalogue_of plane connect picked.now))) }
+    ensures fit { IfOk result (λ rows. All FitsColumns rows.items) }
+    ensures few { IfOk result (λ rows. length rows.items ≤ 2147483647) }
 {
     let mut rows = Vec::new(alloc);
     for (i, node) in picked.iter().enumerate() {
@@ -44,7 +48,10 @@ pub(crate) fn own_rows(
 // Puts a row of the image behind the others, if its first pixel lies in the core.
 fn keep_own(place: &TilePlace, row: CatRow, rows: &mut Vec<CatRow>) -> Result<(), AllocError>
     requires stands { FirstStandsIn place.now.whole row }
-    ensures { OnOk result (rows.new.items ≡ rows.old.items ++ filter
+    requires fits { FitsColumns row }
+    ensures fit { All FitsColumns rows.old.items → All FitsColumns rows.new.items }
+    ensures few { length rows.new.items ≤ length rows.old.items + 1 }
+    ensures exact { OnOk result (rows.new.items ≡ rows.old.items ++ filter
         (λ x. is_in_frame place.now.whole.width place.now.core (first_pixel place.now.whole.width x)) (row ∷ [])) }
 {
     if is_own(place, &row) {
@@ -63,6 +70,7 @@ fn row_in_image(tree: &Tree, sums: &[Sums], number: u32, node: u32, place: &Tile
     ensures exact { ForEachPlaneOf tree.now sums.now (λ plane connect.
         result ≡ moved_row (window_of_place place.now tree.now.shape) (catalogue_row plane connect number node)) }
     ensures stands { FirstStandsIn place.now.whole result }
+    ensures fits { FitsColumns result }
 {
     in_image(place, &row(tree, sums, number, node))
 }

@@ -6,7 +6,7 @@ use Rattle.mesh_background.proofs.Exported.{residual_shape}
 use Rattle.mesh_background.specs.Residuals.{residual_of}
 use Rattle.source_pick.proofs.Exported.{shape-kept}
 use Rattle.tile_make.specs.Told.{IsPlacedWell}
-use Rattle.tile_make.proofs.Made.{tile_made}
+use Rattle.tile_make.proofs.Made.{tile_made, tile_of_window}
 use Rattle.tile_make.proofs.making.make_placed.Goals as goal
 
 pub tell-requires-clause-placed : goal.tell-requires-clause-placed
@@ -18,10 +18,17 @@ tell-requires-clause-placed g c = λ κs lives.
     ∙ residual_shape c.args.image order.mesh order.flat))
     c.requires.placed
 
-pub returns : goal.returns
-returns g c =
+pub returns-clause-made : goal.returns-clause-made
+returns-clause-made g c =
     IfOk-weaker c.tell.result _ _
     (λ tile told r plane shape seen.
     tile_made c.laws_of_making.ensures c.args.order.now c.args.choice.now c.args.place.now c.args.image c.in_ok-plane.plane c.in_ok-sure.sure tile
-    c.requires.placed c.in_ok-sure.ensures c.in_ok-plane.ensures.kept c.in_ok-plane.ensures.same told r plane shape seen)
-    c.tell.ensures
+    c.requires.placed c.in_ok-sure.ensures.known c.in_ok-plane.ensures.kept c.in_ok-plane.ensures.same told r plane shape seen)
+    c.tell.ensures.told
+
+pub returns-clause-told : goal.returns-clause-told
+returns-clause-told g c =
+    IfOk-weaker c.tell.result _ _
+    (λ tile told. tile_of_window c.args.order.now c.args.choice.now c.args.place.now c.args.image c.in_ok-plane.plane c.in_ok-sure.sure tile
+    c.in_ok-sure.ensures.exact c.in_ok-plane.ensures.kept c.in_ok-plane.ensures.same told)
+    c.tell.ensures.told

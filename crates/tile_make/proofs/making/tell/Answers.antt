@@ -1,12 +1,15 @@
-use Rattle.std.proofs.Common.{◌∙◌, refl, sym, ap, subst}
+use Rattle.std.proofs.Common.{length, ◌∙◌, refl, sym, ap, subst}
 use Rattle.comp_tree.specs.ComponentTree.{ComponentTree}
 use Rattle.comp_tree.specs.declared.shape.Shape.{Shape}
 use Rattle.comp_tree.specs.Windows.{IsInside}
-use Rattle.comp_tree.proofs.Exported.{shape-of}
+use Rattle.comp_tree.specs.Components.{tree_of}
+use Rattle.comp_tree.proofs.Exported.{shape-of, length-numbers}
 use Rattle.source_pick.specs.Catalogue.{catalogue, catalogue_of}
 use Rattle.source_pick.specs.Segmentation.{segmentation, segmentation_of}
 use Rattle.tile_make.specs.Placed.{window_of_place}
-use Rattle.tile_make.specs.Told.{own_of}
+use Rattle.tile_make.specs.TileOf.{frame_at, left_open, own_of}
+use Rattle.tile_make.specs.Told.{IsPlacedWell}
+use Rattle.tile_make.proofs.Storing.{window_inside, core_inside, core_of, short_sides, small_numbers}
 use Rattle.tile_make.proofs.making.tell.Goals as goal
 
 pub open_of-requires-clause-inside : goal.open_of-requires-clause-inside
@@ -19,9 +22,12 @@ own_rows-requires-clause-inside g c =
     subst (λ (s : Shape). IsInside c.args.place.now.whole (window_of_place c.args.place.now s))
     (sym (ap (λ (x : ComponentTree). x.shape) c.in_ok-tree.ensures ∙ shape-of c.args.plane.now c.args.order.now.connect)) c.requires.placed.inside
 
-pub returns : goal.returns
+pub open_of-requires-clause-core : goal.open_of-requires-clause-core
+open_of-requires-clause-core g c = core_of c.args.place.now c.args.plane.now.shape c.args.order.now.mesh c.requires.placed
+
+pub returns-clause-told : goal.returns-clause-told
 unfolding catalogue segmentation
-returns g c =
+returns-clause-told g c =
     let plane = c.args.plane.now in
     let connect = c.args.order.now.connect in
     let choice = c.args.choice.now in
@@ -32,11 +38,33 @@ returns g c =
     let shape = ap (λ (x : ComponentTree). x.shape) tree ∙ shape-of plane connect in
     record {
       whole = refl;
-      window = ap (window_of_place place) c.shape.ensures.same;
+      window = ap (frame_at place.left place.top) c.shape.ensures.same;
       core = refl;
-      rows = c.in_ok-rows.ensures plane connect tree (c.deref-3.ensures.value ∙ sums)
+      rows = c.in_ok-rows.ensures.exact plane connect tree (c.deref-3.ensures.value ∙ sums)
           ∙ ap (λ s. own_of place s (catalogue_of plane connect c.deref-4.result.now)) shape
           ∙ ap (λ ns. own_of place plane.shape (catalogue_of plane connect ns)) (c.deref-4.ensures.value ∙ picked);
       map = c.in_ok-map.ensures.exact plane connect tree ∙ ap (segmentation_of plane connect) (c.deref-5.ensures.value ∙ picked);
-      known = λ none. c.in_ok-open.ensures none plane connect tree (c.deref.ensures.value ∙ sums);
+      «open» = c.in_ok-open.ensures.exact
+          ∙ ap (λ (t : ComponentTree). left_open choice.threshold place c.args.sure t.rows c.deref.result.now) tree
+          ∙ ap (left_open choice.threshold place c.args.sure (tree_of plane connect).rows) (c.deref.ensures.value ∙ sums);
+      known = λ none. c.in_ok-open.ensures.known none plane connect tree (c.deref.ensures.value ∙ sums);
+    }
+
+pub returns-clause-storable : goal.returns-clause-storable
+returns-clause-storable g c =
+    let plane = c.args.plane.now in
+    let connect = c.args.order.now.connect in
+    let place = c.args.place.now in
+    let tree = c.in_ok-tree.ensures in
+    record {
+      window = window_inside place c.shape.result c.args.order.now.mesh
+          (subst (λ (s : Shape). IsPlacedWell place s c.args.order.now.mesh) (sym c.shape.ensures.same) c.requires.placed);
+      core = core_inside place plane.shape c.args.order.now.mesh c.requires.placed;
+      boxes = short_sides place.whole _ c.in_ok-open.ensures.inside;
+      few_boxes = c.in_ok-open.ensures.few;
+      map_length = c.in_ok-map.ensures.one_each ∙ ap (λ (x : ComponentTree). length x.node_of) tree ∙ length-numbers plane connect
+          ∙ c.shape.ensures.pixels;
+      small = small_numbers _ c.in_ok-map.ensures.few;
+      rows = c.in_ok-rows.ensures.fit;
+      few_rows = c.in_ok-rows.ensures.few;
     }

@@ -2,10 +2,11 @@ use Rattle.std.proofs.Common.{◌≡◌, ◌<◌, sym, ◌∙◌, ap, subst, ari
 use Rattle.comp_tree.specs.ComponentTree.{ComponentTree}
 use Rattle.comp_tree.specs.Components.{nodes}
 use Rattle.comp_tree.proofs.Exported.{length-rows, shape-of}
-use Rattle.source_pick.specs.Catalogue.{catalogue_row, moved_row}
+use Rattle.source_pick.specs.declared.catalogue.CatRow.{CatRow}
+use Rattle.source_pick.specs.Catalogue.{catalogue_row, moved_row, FitsColumns}
 use Rattle.tile_make.specs.Placed.{window_of_place}
 use Rattle.tile_make.specs.Told.{FirstStandsIn}
-use Rattle.tile_make.proofs.Moving.{first_stands}
+use Rattle.tile_make.proofs.Moving.{first_stands, moved_fits}
 use Rattle.tile_make.proofs.rows.row_in_image.Goals as goal
 
 pub returns-clause-stands : goal.returns-clause-stands
@@ -21,3 +22,20 @@ returns-clause-stands c =
     c.in_image.ensures tree.shape ∙ ap (moved_row w) (c.row.ensures.exact t.plane connect t.of_plane.tree_is t.of_plane.sums_are) in
     subst (FirstStandsIn c.args.place.now.whole) (sym same)
     (first_stands t.plane connect c.args.number c.args.node c.args.place.now.whole w t.one_each node shape c.requires.inside)
+
+pub returns-clause-fits : goal.returns-clause-fits
+returns-clause-fits c =
+    let t = c.requires.sums in
+    let tree = c.args.tree.now in
+    let connect = t.of_plane.connect in
+    let w = window_of_place c.args.place.now tree.shape in
+    let node : c.args.node < length (nodes t.plane connect) =
+    omega (arith, c.requires.node, ap (λ (x : ComponentTree). length x.rows) t.of_plane.tree_is, length-rows t.plane connect) in
+    let shape : t.plane.shape ≡ tree.shape = sym (ap (λ (x : ComponentTree). x.shape) t.of_plane.tree_is ∙ shape-of t.plane connect) in
+    let row_is = c.row.ensures.exact t.plane connect t.of_plane.tree_is t.of_plane.sums_are in
+    let stands : FirstStandsIn c.args.place.now.whole (moved_row w c.row.result) =
+    subst (λ (x : CatRow). FirstStandsIn c.args.place.now.whole (moved_row w x)) (sym row_is)
+    (first_stands t.plane connect c.args.number c.args.node c.args.place.now.whole w t.one_each node shape c.requires.inside) in
+    subst FitsColumns (sym (c.in_image.ensures tree.shape))
+    (moved_fits t.plane connect c.args.number c.args.node c.args.place.now.whole w c.row.result t.one_each node shape c.requires.inside row_is
+    c.row.ensures.columns c.row.ensures.centred stands)
