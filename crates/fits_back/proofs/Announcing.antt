@@ -1,16 +1,16 @@
 -- The fifth card of a table's header says how many rows it has.
-use Rattle.std.proofs.Common.{◌≡◌, ◌∙◌, ℕ, ◌+◌, ◌-◌, ◌*◌, ◌/◌, ◌^◌, ◌<◌, ◌≤◌, List, [], ◌∷◌, ◌++◌, length, replicate, take, drop, refl, sym, ap, arith, ℤ, pos, Option, Some, true}
+use Rattle.std.proofs.Common.{◌≡◌, ◌∙◌, ℕ, ◌-◌, ◌*◌, ◌/◌, ◌^◌, ◌≤◌, List, ◌++◌, get_or, length, replicate, take, drop, refl, ap, arith, ℤ, pos, Some}
 use Rattle.std.proofs.Common.{append_assoc, length-append, cond, None, rules}
 use Rattle.std.specs.Prelude.{codes}
-use Rattle.std.specs.Fmt.{decimal, signed_decimal}
+use Rattle.std.specs.Fmt.{decimal}
 use Rattle.std.specs.List.{concat}
 use Rattle.std.proofs.lemmas.Bool.{lt-ltb}
 use Rattle.std.proofs.lemmas.Fmt.{length-decimal-le}
 use Rattle.std.proofs.lemmas.List.{drop_at, take_at, length-replicate}
-use Rattle.std.proofs.lemmas.List.Sums.{sum_by-cons}
+use Rattle.std.proofs.lemmas.List.Sums.{sum_by-le}
 use Rattle.fits_card.specs.Laws.{IntegerIsReadBack}
-use Rattle.fits_card.specs.Values.{Integer, value_of, integer_of}
-use Rattle.fits_card.specs.Written.{left_justified, right_justified, spaces, written_value, written_integer, written_text}
+use Rattle.fits_card.specs.Values.{value_of, integer_of}
+use Rattle.fits_card.specs.Written.{left_justified, spaces, written_integer, written_text}
 use Rattle.fits_write.specs.declared.table.Cell.{Cell}
 use Rattle.fits_write.specs.declared.table.Cell.TheVariants.{J, K}
 use Rattle.fits_write.specs.declared.table.Column.{Column}
@@ -41,16 +41,12 @@ text_long = refl
 
 -- ---- the first cards of a table
 
-size_most : (columns : List Column) → row_size columns ≤ 8 * length columns
-size_most [] = omega arith
-size_most (column ∷ columns) =
-    let first = cell_most column.cell in
-    let others = size_most columns in
-    omega (arith, first, others, sum_by-cons (λ c. cell_size c.cell) column columns)
-  where
-    cell_most : (cell : Cell) → cell_size cell ≤ 8
-    cell_most J = omega arith
-    cell_most K = omega arith
+cell_most : (cell : Cell) → cell_size cell ≤ 8
+cell_most J = omega arith
+cell_most K = omega arith
+
+row_most : (columns : List Column) → row_size columns ≤ length columns * 8
+row_most columns = sum_by-le (λ c. cell_size c.cell) 8 columns (λ k d within. cell_most (get_or columns k d).cell)
 
 -- four cards, the fifth, and what stands behind them
 parted : (a b c d e others fill data_blocks rest : List ℕ) → ((a ++ (b ++ (c ++ (d ++ (e ++ others)))) ++ fill) ++ data_blocks) ++ rest
@@ -75,12 +71,12 @@ fifth_of_table name columns cells rest table =
     let d = written_integer (codes "NAXIS1  ") (pos (row_size columns)) in
     let e = written_integer (codes "NAXIS2  ") (pos rows) in
     let others = written_integer (codes "PCOUNT  ") (pos 0)
-        ++ (written_integer (codes "GCOUNT  ") (pos 1)
-        ++ (written_integer (codes "TFIELDS ") (pos (length columns)) ++ concat (column_cards 1 columns ++ named_back name))) in
+    ++ (written_integer (codes "GCOUNT  ") (pos 1)
+    ++ (written_integer (codes "TFIELDS ") (pos (length columns)) ++ concat (column_cards 1 columns ++ named_back name))) in
     let fill : List ℕ = replicate (room_after (length (a ++ (b ++ (c ++ (d ++ (e ++ others))))))) 32 in
     let data_bytes = table_bytes columns cells in
     let data_blocks : List ℕ = data_bytes ++ replicate (room_after (length data_bytes)) 0 in
-    let few : row_size columns ≤ 2147483647 = omega (arith, size_most columns, table.few_columns) in
+    let few : row_size columns ≤ 2147483647 = omega (arith, row_most columns, table.few_columns) in
     record {
       front = ((a ++ b) ++ c) ++ d;
       behind = others ++ (fill ++ (data_blocks ++ rest));

@@ -1,6 +1,6 @@
 -- Tables that are told apart, and those that aren't there.
 use Rattle.std.proofs.Common.{◌≡◌, ◌∙◌, ℕ, ◌*◌, ◌/◌, ◌≤◌, List, [], ◌++◌, length, refl, sym, ap, ap₂, subst, ℤ, pos, Option, Some, None, Result, Ok, Err, w64, FitsSigned, All}
-use Rattle.std.proofs.Common.{append_assoc, append-nil, IfOk}
+use Rattle.std.proofs.Common.{append_assoc, IfOk}
 use Rattle.std.specs.Option.{IfSome, IfNone}
 use Rattle.std.proofs.lemmas.List.{append_cancel_left}
 use Rattle.fits_card.specs.Laws.{IntegerIsReadBack}
@@ -11,7 +11,7 @@ use Rattle.fits_write.specs.Hdus.{header, named_cards, named_hdu}
 use Rattle.fits_write.specs.Rows.{table_cells}
 use Rattle.fits_back.specs.Announced.{announced}
 use Rattle.fits_back.specs.Fronts.{BeginsNot}
-use Rattle.fits_back.specs.TableRows.{AreRows, BeginsWithNoRows}
+use Rattle.fits_back.specs.TableRows.{StandAsRows, BeginsWithNoRows}
 use Rattle.fits_back.proofs.Announcing.{Announces, table_announces}
 use Rattle.fits_back.proofs.Cells.{Laws}
 use Rattle.fits_back.proofs.Numbers.{data_told}
@@ -53,7 +53,7 @@ tables_told law laws name columns xs ys a b table other whole as_whole e =
 -- ---- a table at the front of bytes
 
 pub table_here : (name : List ℕ) (columns : List Column) (n : ℕ) (bytes behind rest : List ℕ) (cells : List ℤ) → bytes ≡ header (named_cards name columns n) ++ behind
-    → AreRows columns n behind cells rest → bytes ≡ named_hdu name columns cells ++ rest
+    → StandAsRows columns n behind cells rest → bytes ≡ named_hdu name columns cells ++ rest
 unfolding named_hdu
 table_here name columns n bytes behind rest cells e are =
     e ∙ ap (λ l. header (named_cards name columns n) ++ l) are.bytes_are

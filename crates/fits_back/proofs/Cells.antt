@@ -1,5 +1,5 @@
 -- The cells of rows, and the bytes of a table.
-use Rattle.std.proofs.Common.{◌≡◌, ◌∙◌, ℕ, zero, suc, ◌+◌, ◌-◌, ◌*◌, ◌/◌, ◌%◌, ◌^◌, ◌<◌, ◌≤◌, List, [], ◌∷◌, ◌++◌, get_or, length, map, take, drop, refl}
+use Rattle.std.proofs.Common.{◌≡◌, ◌∙◌, ℕ, zero, suc, ◌+◌, ◌-◌, ◌*◌, ◌/◌, ◌%◌, ◌<◌, ◌≤◌, List, [], ◌∷◌, ◌++◌, get_or, length, take, drop, refl}
 use Rattle.std.proofs.Common.{sym, ap, ap₂, subst, arith, ℤ, w32, w64, FitsSigned, All, IsTrue, mul-suc, mul-zero, take-append-drop, length-append, length-drop}
 use Rattle.std.proofs.Common.{length-take-le, append-nil, subst₂, mod-eq_of_lt, ◌⊎◌, inl, inr, pos, rules, replicate}
 use Rattle.std.proofs.lemmas.Bool.{cases_lt}
@@ -10,8 +10,8 @@ use Rattle.std.proofs.Math.Nat.{mul-mod_right, mul-div_cancel_left, add-mod_left
 use Rattle.std.proofs.lemmas.Int.{of_z-to_z}
 use Rattle.std.proofs.lemmas.List.Elements.{All-append, All-cons}
 use Rattle.std.proofs.lemmas.List.Sums.{sum_by-cons}
-use Rattle.std.specs.List.{concat, list_all, range_with_len}
-use Rattle.std.specs.Int.{cast_signed, cast_unsigned}
+use Rattle.std.specs.List.{list_all, range_with_len}
+use Rattle.std.specs.Int.{cast_unsigned}
 use Rattle.byteorder.specs.Endian.{big_number}
 use Rattle.byteorder.specs.Numbers.{big_from-lt, big_from-take}
 use Rattle.fits_card.specs.Written.{is_plain}
@@ -23,7 +23,7 @@ use Rattle.fits_write.specs.Rows.{front_cell, row_cells, table_cells}
 use Rattle.fits_write.specs.Laws.{WrittenTableIsReadBack, TableHasItsRowsBytes}
 use Rattle.fits_write.proofs.Exported.{length-row_cells, table_cells-more}
 use Rattle.fits_back.specs.Fronts.{BeginsWithNoData}
-use Rattle.fits_back.specs.TableRows.{AreRows, BeginsWithNoRows}
+use Rattle.fits_back.specs.TableRows.{StandAsRows, BeginsWithNoRows}
 use Rattle.fits_back.proofs.Bytes.{AreBytes, bytes-take, bytes-drop, bytes-concat, bytes_before, bytes_of_number, number_tells, parts_same}
 
 -- the next row behind those that are read
@@ -143,9 +143,6 @@ cell_tells K a b la lb are been e =
     number_tells 8 (take 8 a) (take 8 b) (length-take-le 8 a la) (length-take-le 8 b lb) (bytes-take 8 a are) (bytes-take 8 b been)
     (big_from-take 0 8 8 a (omega arith) ∙ same ∙ sym (big_from-take 0 8 8 b (omega arith)))
 
-size_more : (column : Column) (columns : List Column) → row_size (column ∷ columns) ≡ cell_size column.cell + row_size columns
-size_more column columns = sum_by-cons (λ c. cell_size c.cell) column columns
-
 no_bytes : (a b : List ℕ) → length a ≡ 0 → length b ≡ 0 → a ≡ b
 no_bytes [] [] la lb = refl
 no_bytes [] (y ∷ b) la lb = absurd (omega arith)
@@ -156,7 +153,7 @@ row_tells : (columns : List Column) (a b : List ℕ) → length a ≡ row_size c
 row_tells [] a b la lb are been e = no_bytes a b la lb
 row_tells (column ∷ columns) a b la lb are been e =
     let size = cell_size column.cell in
-    let more = size_more column columns in
+    let more : row_size (column ∷ columns) ≡ cell_size column.cell + row_size columns = sum_by-cons (λ c. cell_size c.cell) column columns in
     let first : front_cell column.cell a ≡ front_cell column.cell b = cc in
     let later : row_cells columns (drop size a) ≡ row_cells columns (drop size b) = cc in
     let front = cell_tells column.cell a b (omega (arith, la, more)) (omega (arith, lb, more)) are been first in
@@ -215,7 +212,7 @@ data_are_bytes data_bytes rest are =
 
 pub rows_here : Laws → (columns : List Column) (bytes data_bytes rest : List ℕ) (cells : List ℤ) (n : ℕ) → 0 < length columns → length columns ≤ 99
     → IsTrue (list_all (λ column. list_all is_plain column.name) columns) → n ≤ 2147483647 → AreBytes bytes → length data_bytes ≡ row_size columns * n
-    → bytes ≡ filled 0 data_bytes ++ rest → cells ≡ table_cells columns data_bytes n → AreRows columns n bytes cells rest
+    → bytes ≡ filled 0 data_bytes ++ rest → cells ≡ table_cells columns data_bytes n → StandAsRows columns n bytes cells rest
 rows_here laws columns bytes data_bytes rest cells n some few plain rows all_are long split read =
     let are = data_are_bytes data_bytes rest (subst AreBytes split all_are) in
     let table : IsTable columns cells = subst (IsTable columns) (sym read) (cells_are_table columns data_bytes n some few plain rows are) in

@@ -1,10 +1,9 @@
 -- Headers and data, and what fills their blocks, taken off bytes.
-use Rattle.std.proofs.Common.{◌≡◌, ◌∙◌, ℕ, ◌+◌, ◌-◌, ◌<◌, ◌≤◌, List, [], ◌∷◌, ◌++◌, get_or, length, replicate, take, drop, refl, sym, ap, arith, subst}
-use Rattle.std.proofs.Common.{append_assoc, append-nil, take-append-drop, length-append, Option, Some, None, MatchOption, Bor}
+use Rattle.std.proofs.Common.{◌≡◌, ◌∙◌, ℕ, ◌+◌, ◌-◌, ◌<◌, ◌≤◌, List, [], ◌∷◌, ◌++◌, get_or, length, replicate, take, drop, sym, ap, arith, subst}
+use Rattle.std.proofs.Common.{append_assoc, take-append-drop, length-append, Option, Some, None, MatchOption, Bor}
 use Rattle.std.proofs.lemmas.List.{append_cancel_left, drop_at, at_drop_more, drop_all}
 use Rattle.std.proofs.lemmas.List.Folds.{concat-append}
 use Rattle.std.specs.List.{concat}
-use Rattle.fits_write.specs.declared.table.Cell.TheVariants.{J}
 use Rattle.fits_write.specs.declared.table.Column.{Column}
 use Rattle.fits_write.specs.Blocks.{filled, room_after}
 use Rattle.fits_write.specs.Columns.{column_cards}
@@ -36,14 +35,14 @@ fill_off cards bytes behind rest e here =
 
 header_by : (cards : List (List ℕ)) (bytes behind : List ℕ) (r : Option (Bor (List ℕ))) → bytes ≡ concat cards ++ behind
     → MatchOption r (BeginsNot (replicate (room_after (length (concat cards))) 32) behind)
-      (λ rest. behind ≡ replicate (room_after (length (concat cards))) 32 ++ rest.now)
+    (λ rest. behind ≡ replicate (room_after (length (concat cards))) 32 ++ rest.now)
     → MatchOption r (BeginsNot (header cards) bytes) (λ rest. bytes ≡ header cards ++ rest.now)
 header_by cards bytes behind None e missing = fill_missing cards bytes behind e missing
 header_by cards bytes behind (Some x) e here = fill_off cards bytes behind x.now e here
 
 pub header_stripped : (cards : List (List ℕ)) (bytes behind : List ℕ) (r : Option (Bor (List ℕ))) → bytes ≡ concat cards ++ behind
     → MatchOption r (BeginsNot (replicate (room_after (length bytes - length behind)) 32) behind)
-      (λ rest. behind ≡ replicate (room_after (length bytes - length behind)) 32 ++ rest.now)
+    (λ rest. behind ≡ replicate (room_after (length bytes - length behind)) 32 ++ rest.now)
     → MatchOption r (BeginsNot (header cards) bytes) (λ rest. bytes ≡ header cards ++ rest.now)
 header_stripped cards bytes behind r e h =
     let long : length bytes - length behind ≡ length (concat cards) = omega (arith, ap length e, length-append (concat cards) behind) in

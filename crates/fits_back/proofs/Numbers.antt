@@ -1,5 +1,5 @@
 -- The numbers of a map.
-use Rattle.std.proofs.Common.{◌≡◌, ◌∙◌, ℕ, suc, ◌+◌, ◌*◌, ◌^◌, ◌<◌, ◌≤◌, List, [], ◌∷◌, ◌++◌, get_or, length, map, replicate, take, drop, refl, sym, ap, ap₂, arith, All}
+use Rattle.std.proofs.Common.{◌≡◌, ◌∙◌, ℕ, suc, ◌*◌, ◌^◌, ◌<◌, List, [], ◌∷◌, ◌++◌, get_or, length, map, replicate, refl, sym, ap, ap₂, arith, All}
 use Rattle.std.proofs.Common.{append_assoc, append-nil, length-append, subst, take_all}
 use Rattle.std.proofs.lemmas.List.{map-append, append_cancel_left, take_at}
 use Rattle.std.proofs.lemmas.List.Folds.{concat-append}
@@ -37,11 +37,11 @@ all_read numbers bytes (b ∷ rest) none so_far = absurd (omega arith)
 
 -- ---- how many bytes numbers have, and that these tell them
 
-pub length-map_bytes : (numbers : List ℕ) → length (map_bytes numbers) ≡ 4 * length numbers
+map_takes : (numbers : List ℕ) (n : ℕ) → length numbers ≡ n → length (map_bytes numbers) ≡ 4 * n
 unfolding map_bytes
-length-map_bytes [] = refl
-length-map_bytes (x ∷ numbers) =
-    let others : length (concat (map (big_bytes 4) numbers)) ≡ 4 * length numbers = length-map_bytes numbers in
+map_takes [] n many = omega arith
+map_takes (x ∷ numbers) n many =
+    let others : length (concat (map (big_bytes 4) numbers)) ≡ 4 * length numbers = map_takes numbers (length numbers) refl in
     omega (arith, length-append (big_bytes 4 x) (concat (map (big_bytes 4) numbers)), length-bytes_high_first 4 x, others)
 
 number_told : (x y : ℕ) → x < 2 ^ 32 → y < 2 ^ 32 → big_bytes 4 x ≡ big_bytes 4 y → x ≡ y
@@ -78,7 +78,7 @@ maps_told shape xs ys a b many as_many small less e =
     let behind : filled 0 (map_bytes xs) ++ a ≡ filled 0 (map_bytes ys) ++ b =
     append_cancel_left front (filled 0 (map_bytes xs) ++ a) (filled 0 (map_bytes ys) ++ b)
     (sym (append_assoc front (filled 0 (map_bytes xs)) a) ∙ e ∙ append_assoc front (filled 0 (map_bytes ys)) b) in
-    let l : length (map_bytes xs) ≡ length (map_bytes ys) = omega (arith, length-map_bytes xs, length-map_bytes ys, many, as_many) in
+    let l : length (map_bytes xs) ≡ length (map_bytes ys) = map_takes xs (shape.width * shape.height) many ∙ sym (map_takes ys (shape.width * shape.height) as_many) in
     let parts = data_told (map_bytes xs) (map_bytes ys) a b l behind in
     (numbers_told xs ys (many ∙ sym as_many) (λ k h. small k 0 h) (λ k h. less k 0 h) parts.0, parts.1)
 
@@ -104,5 +104,5 @@ pub no_map_data : (shape : Shape) (bytes behind : List ℕ) (pixels : ℕ) → p
 unfolding map_hdu
 no_map_data shape bytes behind pixels all e missing = λ numbers rest many small is.
     let front = header (map_cards shape) in
-    missing (map_bytes numbers) rest (length-map_bytes numbers ∙ ap (λ (n : ℕ). 4 * n) (many ∙ sym all))
+    missing (map_bytes numbers) rest (map_takes numbers pixels (many ∙ sym all))
     (append_cancel_left front behind (filled 0 (map_bytes numbers) ++ rest) (sym e ∙ is ∙ append_assoc front (filled 0 (map_bytes numbers)) rest))

@@ -1,5 +1,5 @@
 -- Fronts that are taken off bytes one after the other.
-use Rattle.std.proofs.Common.{◌≡◌, ◌∙◌, ℕ, ◌+◌, ◌-◌, ◌%◌, ◌<◌, ◌≤◌, List, [], ◌∷◌, ◌++◌, get_or, length, replicate, take, drop, refl, sym, ap, ap₂, arith}
+use Rattle.std.proofs.Common.{◌≡◌, ◌∙◌, ℕ, ◌+◌, ◌-◌, ◌%◌, ◌<◌, ◌≤◌, List, [], ◌++◌, get_or, length, replicate, take, drop, refl, sym, ap, ap₂, arith}
 use Rattle.std.proofs.Common.{append_assoc, take-append-drop, nat_eq, true, false, Option, Some, None, MatchOption, Bor, subst}
 use Rattle.std.proofs.Math.Seq.{take-append_seam}
 use Rattle.std.proofs.lemmas.List.{append_cancel_left, take-replicate, at_drop_more, drop_all}
@@ -11,7 +11,7 @@ use Rattle.fits_back.specs.Fronts.{BeginsNot}
 -- what `strip_prefix` says of bytes
 pub stripped : (bytes front : List ℕ) (r : Option (Bor (List ℕ)))
     → MatchOption r (pointwise nat_eq (take (length front) bytes) front ≡ false)
-      (λ x. (pointwise nat_eq (take (length front) bytes) front ≡ true) × (x.now ≡ drop (length front) bytes) × (length x.now + length front ≡ length bytes))
+    (λ x. (pointwise nat_eq (take (length front) bytes) front ≡ true) × (x.now ≡ drop (length front) bytes) × (length x.now + length front ≡ length bytes))
     → MatchOption r (BeginsNot front bytes) (λ rest. bytes ≡ front ++ rest.now)
 stripped bytes front None other = λ rest is. other_text (take (length front) bytes) front (sym other) (ap (take (length front)) is ∙ take-append_seam front rest)
 stripped bytes front (Some x) same =
@@ -69,6 +69,6 @@ copies size len byte e =
 
 pub fill_stripped : (size len byte : ℕ) (bytes : List ℕ) (r : Option (Bor (List ℕ))) → size ≡ 2880
     → MatchOption r (BeginsNot (take ((size - len % size) % size) (replicate size byte)) bytes)
-      (λ rest. bytes ≡ take ((size - len % size) % size) (replicate size byte) ++ rest.now)
+    (λ rest. bytes ≡ take ((size - len % size) % size) (replicate size byte) ++ rest.now)
     → MatchOption r (BeginsNot (replicate (room_after len) byte) bytes) (λ rest. bytes ≡ replicate (room_after len) byte ++ rest.now)
 fill_stripped size len byte bytes r e h = subst (λ l. MatchOption r (BeginsNot l bytes) (λ rest. bytes ≡ l ++ rest.now)) (copies size len byte e) h

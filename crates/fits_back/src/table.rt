@@ -9,7 +9,7 @@ ghost use Rattle.fits_write.specs.Hdus.{header, named_cards, named_hdu};
 ghost use Rattle.fits_write.specs.Rows.{table_cells};
 ghost use Rattle.fits_back.specs.Announced.{announced};
 ghost use Rattle.fits_back.specs.Fronts.{BeginsNot};
-ghost use Rattle.fits_back.specs.TableRows.{AreRows, BeginsWithNoRows};
+ghost use Rattle.fits_back.specs.TableRows.{StandAsRows, BeginsWithNoRows};
 
 use crate::data::split_data;
 use crate::front::{strip_cards, strip_fill};
@@ -132,7 +132,7 @@ fn split_rows<'a>(
     requires plain_names { IsTrue (list_all (λ column. list_all is_plain column.name) columns.now) }
     requires few_rows { rows ≤ 2147483647 }
     ensures some { IfOk result (λ found. IfSome found (λ split.
-        AreRows columns.now rows bytes.now split.cells.items split.rest.now)) }
+        StandAsRows columns.now rows bytes.now split.cells.items split.rest.now)) }
     ensures none { IfOk result (λ found. IfNone found (BeginsWithNoRows columns.now rows bytes.now)) }
 {
     written_cells_are_read_back();

@@ -49,7 +49,10 @@ fn a_table_is_taken_apart(rt: HostRuntime) -> Result<(), Fail> {
     ];
     let mut sink = MemSink::new(vec![in rt.alloc(); 1; 5760]?, &[], 0);
     let cells = [1, -2, 7, 1 << 40];
-    assert_eq!(rt; put_named_table(&mut sink, b"TILE", &columns, &cells), Ok(()));
+    assert_eq!(rt;
+        put_named_table(&mut sink, b"TILE", &columns, &cells),
+        Ok(())
+    );
     let split = split_table(rt.alloc(), sink.bytes(), b"TILE", &columns)
         .ok()
         .ok_or("memory")?;

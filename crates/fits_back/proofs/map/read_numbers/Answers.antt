@@ -1,4 +1,4 @@
-use Rattle.std.proofs.Common.{◌≡◌, ◌∙◌, ◌++◌, ◌∷◌, [], ℕ, length, ap, subst, arith, rules, w8}
+use Rattle.std.proofs.Common.{◌∙◌, ◌++◌, ap, arith, rules, w8}
 use Rattle.std.proofs.Math.Facts.{Fits-lt-pow}
 use Rattle.fits_write.specs.Hdus.{map_bytes}
 use Rattle.fits_back.proofs.Numbers.{no_numbers, number_read, all_read}

@@ -1,6 +1,6 @@
 use Rattle.std.proofs.Common.{◌∙◌, ℕ, ◌*◌, ap, arith, w8}
 use Rattle.std.proofs.Math.Facts.{Fits-lt-pow}
-use Rattle.fits_back.proofs.Cells.{Laws, rows_here, rows_cut, rows_missing}
+use Rattle.fits_back.proofs.Cells.{Laws, rows_here, rows_cut}
 use Rattle.fits_back.proofs.table.split_rows.Goals as goal
 
 pub returns-then-bytes-size-clause-none : goal.returns-then-bytes-size-clause-none

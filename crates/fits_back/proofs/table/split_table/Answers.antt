@@ -2,7 +2,7 @@ use Rattle.std.proofs.Common.{◌≡◌, ◌++◌}
 use Rattle.fits_write.specs.Columns.{IsTable}
 use Rattle.fits_write.specs.Hdus.{named_hdu}
 use Rattle.fits_back.specs.declared.table.SplitTable.{SplitTable}
-use Rattle.fits_back.specs.TableRows.{AreRows, BeginsWithNoRows}
+use Rattle.fits_back.specs.TableRows.{StandAsRows, BeginsWithNoRows}
 use Rattle.fits_back.proofs.Apart.{BeginsWithNoTable, table_here, none_announced, no_table_header, no_table_rows, found_along, none_along}
 use Rattle.fits_back.proofs.table.split_table.Goals as goal
 
@@ -22,7 +22,7 @@ returns-clause-some c =
     let bytes = c.args.bytes.now in
     let behind = c.in-Some-strip_table_header.behind.now in
     let rows = c.in-Some.rows in
-    found_along _ (λ (split : SplitTable). AreRows columns rows behind split.cells.items split.rest.now)
+    found_along _ (λ (split : SplitTable). StandAsRows columns rows behind split.cells.items split.rest.now)
     (λ split. (bytes ≡ named_hdu name columns split.cells.items ++ split.rest.now) × IsTable columns split.cells.items)
     (λ split are. (table_here name columns rows bytes behind split.rest.now split.cells.items c.in-Some-strip_table_header.ensures are, are.table))
     c.split_rows.ensures.some
