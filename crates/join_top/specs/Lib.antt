@@ -1,2 +1,5 @@
 pub mod AllBytes
 pub mod JoinNotes
+pub mod Joinings
+pub mod JoinHeadline
+pub mod Stops

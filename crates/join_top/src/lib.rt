@@ -2,7 +2,13 @@
 #![tactic(auto)]
 
 mod ends;
+mod making;
 mod notes;
 mod reading;
+mod top;
 
 pub use ends::{JoinEnd, JoinRefusal};
+pub use top::{end_of_join, run_join};
+
+#[cfg(test)]
+mod tests;
