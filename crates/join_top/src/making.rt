@@ -48,9 +48,7 @@ pub(crate) fn make_joined(alloc: Global, bytes: &[u8]) -> Result<Detection, Make
     let whole = first.whole;
     match join(alloc, whole, &tiles) {
         Ok(joined) => listed(alloc, whole, joined),
-        Err(JoinStop::Refused(fault)) => {
-            Err(MakeStop::Refused(JoinRefusal::Unjoinable(fault)))
-        }
+        Err(JoinStop::Refused(fault)) => { Err(MakeStop::Refused(JoinRefusal::Unjoinable(fault))) }
         Err(JoinStop::NoMemory) => Err(MakeStop::NoMemory),
     }
 }

@@ -53,11 +53,49 @@ column_fits (negsuc n) h = record { sfits = omega (arith, ints, h.low) }
 moved_fits : (w : Window) (row : CatRow) → FitsColumns (moved_row w row) → AllByRecursion (FitsSigned w64) (cells_of row)
     → AllByRecursion (FitsSigned w64) (cells_of (moved_row w row))
 unfolding moved_row
-moved_fits w row columns (number, (level, (base, (area, (flux, (peak, (a, (b, (c, (d, (e, (f, (g, (h, (xvar, (yvar, (xycov, rest))))))))))))))))) =
-    (number, (level, (base, (area, (flux, (peak,
-    (column_fits _ columns.xmin, (column_fits _ columns.xmax, (column_fits _ columns.ymin, (column_fits _ columns.ymax,
-    (column_fits _ columns.xfirst, (column_fits _ columns.yfirst, (column_fits _ columns.xcen, (column_fits _ columns.ycen,
-    (xvar, (yvar, (xycov, rest)))))))))))))))))
+moved_fits w row columns (number, (level, (base, (area, (flux, (peak, (a, (b, (c, (d, (e, (f, (g, (h, (xvar, (yvar, (xycov, rest))))))))))))))))) = (
+  number,
+  (
+    level,
+    (
+      base,
+      (
+        area,
+        (
+          flux,
+          (
+            peak,
+            (
+              column_fits _ columns.xmin,
+              (
+                column_fits _ columns.xmax,
+                (
+                  column_fits _ columns.ymin,
+                  (
+                    column_fits _ columns.ymax,
+                    (
+                      column_fits _ columns.xfirst,
+                      (
+                        column_fits _ columns.yfirst,
+                        (
+                          column_fits _ columns.xcen,
+                          (
+                            column_fits _ columns.ycen,
+                            (xvar, (yvar, (xycov, rest))),
+                          ),
+                        ),
+                      ),
+                    ),
+                  ),
+                ),
+              ),
+            ),
+          ),
+        ),
+      ),
+    ),
+  ),
+)
 
 -- ---- rows
 
