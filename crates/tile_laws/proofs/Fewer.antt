@@ -30,7 +30,7 @@ use Rattle.node_sums.proofs.Exported.{length-sums_in, level-of_node}
 use Rattle.tile_laws.specs.declared.extents.Extent.{Extent}
 use Rattle.tile_laws.specs.Extents.{box_extent}
 use Rattle.tile_laws.specs.Knowing.{node_box, IsWholeAt}
-use Rattle.tile_laws.specs.Opening.{is_whole_at, is_settled, open_among, open_extents}
+use Rattle.tile_laws.specs.Opening.{is_whole_node, is_box_settled, open_among, open_extents}
 use Rattle.tile_laws.proofs.Testing.{whole_test_is_exact}
 
 -- ---- pixels side by side
@@ -240,7 +240,7 @@ length_filtered test (z ∷ zs) = go (test z) (length_filtered test zs)
 
 module _ (r : Raster) (connect : Connect) (plane : IsPlane r) (threshold : ℤ) (left top : ℕ) (whole : Shape) (core sure : Box) where
   abbrev is_open : ℕ × Sums → Bool
-  is_open e = is_whole_at threshold (tree_of r connect).rows e.0 && not (is_settled whole core sure (node_box left top e.1))
+  is_open e = is_whole_node threshold (tree_of r connect).rows e.0 && not (is_box_settled whole core sure (node_box left top e.1))
 
   abbrev place_of : ℕ × Sums → ℕ
   place_of e = squeeze (top_of r connect e.0)
@@ -251,7 +251,7 @@ module _ (r : Raster) (connect : Connect) (plane : IsPlane r) (threshold : ℤ) 
   whole_from : (e : ℕ × Sums) → is_open e ≡ true → IsWholeAt threshold (tree_of r connect).rows e.0
   whole_from e k =
       (whole_test_is_exact threshold (tree_of r connect).rows e.0).0
-      (and_parts (is_whole_at threshold (tree_of r connect).rows e.0) (not (is_settled whole core sure (node_box left top e.1))) k).0
+      (and_parts (is_whole_node threshold (tree_of r connect).rows e.0) (not (is_box_settled whole core sure (node_box left top e.1))) k).0
 
   apart : 6 ≤ r.shape.width → (e f : ℕ × Sums) → e.0 < f.0 → f.0 < length (nodes r connect) → is_open e ≡ true → is_open f ≡ true
       → place_of f ≡ place_of e → ⊥

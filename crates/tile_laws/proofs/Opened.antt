@@ -14,7 +14,7 @@ use Rattle.node_sums.specs.declared.entry.Sums.{Sums}
 use Rattle.tile_laws.specs.declared.extents.Extent.{Extent}
 use Rattle.tile_laws.specs.Extents.{extent_box, box_extent}
 use Rattle.tile_laws.specs.Knowing.{node_box, IsSettled, IsWholeAt}
-use Rattle.tile_laws.specs.Opening.{is_whole_at, is_settled, open_among, open_extents, IsBoxOf}
+use Rattle.tile_laws.specs.Opening.{is_whole_node, is_box_settled, open_among, open_extents, IsBoxOf}
 use Rattle.tile_laws.proofs.NodeBoxes.{AreOpenBoxes}
 use Rattle.tile_laws.proofs.Testing.{whole_test_is_exact, settled_test_is_exact}
 
@@ -27,17 +27,17 @@ pub record AreOpened (threshold : ℤ) (rows : List NodeRow) (sums : List Sums) 
 
 -- a test of the code that answers for the same statement as one of the definitions
 pub whole_told : (threshold : ℤ) (rows : List NodeRow) (n : ℕ) (result answer : Bool) → IsTrue result ↔ IsWholeAt threshold rows n → result ≡ answer
-    → is_whole_at threshold rows n ≡ answer
+    → is_whole_node threshold rows n ≡ answer
 whole_told threshold rows n result answer says is =
-    sym (same_bool result (is_whole_at threshold rows n) (λ k. (whole_test_is_exact threshold rows n).1 (says.0 k))
+    sym (same_bool result (is_whole_node threshold rows n) (λ k. (whole_test_is_exact threshold rows n).1 (says.0 k))
     (λ k. says.1 ((whole_test_is_exact threshold rows n).0 k)))
     ∙ is
 
 pub settled_told : (whole : Shape) (core sure part box : Box) (result answer : Bool) → part ≡ box → IsBoxOf whole part
-    → IsTrue result ↔ IsSettled whole core sure part → result ≡ answer → is_settled whole core sure box ≡ answer
+    → IsTrue result ↔ IsSettled whole core sure part → result ≡ answer → is_box_settled whole core sure box ≡ answer
 settled_told whole core sure part box result answer same of says is =
-    subst (λ (b : Box). is_settled whole core sure b ≡ answer) same
-    (sym (same_bool result (is_settled whole core sure part) (λ k. (settled_test_is_exact whole core sure part of).1 (says.0 k))
+    subst (λ (b : Box). is_box_settled whole core sure b ≡ answer) same
+    (sym (same_bool result (is_box_settled whole core sure part) (λ k. (settled_test_is_exact whole core sure part of).1 (says.0 k))
     (λ k. says.1 ((settled_test_is_exact whole core sure part of).0 k)))
     ∙ is)
 
@@ -48,10 +48,10 @@ module _ (threshold : ℤ) (rows : List NodeRow) (sums : List Sums) (left top : 
   unfolding open_among
   among_append xs x =
       ap (map (λ e. box_extent (node_box left top e.1)))
-      (filter-append (λ e. is_whole_at threshold rows e.0 && not (is_settled whole core sure (node_box left top e.1))) xs (x ∷ []))
+      (filter-append (λ e. is_whole_node threshold rows e.0 && not (is_box_settled whole core sure (node_box left top e.1))) xs (x ∷ []))
       ∙ map-append (λ e. box_extent (node_box left top e.1))
-      (filter (λ e. is_whole_at threshold rows e.0 && not (is_settled whole core sure (node_box left top e.1))) xs)
-      (filter (λ e. is_whole_at threshold rows e.0 && not (is_settled whole core sure (node_box left top e.1))) (x ∷ []))
+      (filter (λ e. is_whole_node threshold rows e.0 && not (is_box_settled whole core sure (node_box left top e.1))) xs)
+      (filter (λ e. is_whole_node threshold rows e.0 && not (is_box_settled whole core sure (node_box left top e.1))) (x ∷ []))
 
   taken : (n : ℕ) (e : Sums) → n < length sums
       → open_among threshold rows left top whole core sure (take (n + 1) (enumerate_from 0 sums))
@@ -65,16 +65,16 @@ module _ (threshold : ℤ) (rows : List NodeRow) (sums : List Sums) (left top : 
       ∙ among_append (take n (enumerate_from 0 sums)) (n, get_or sums n e)
 
   -- one node, whose box is named, or isn't
-  one_named : (n : ℕ) (s : Sums) → is_whole_at threshold rows n ≡ true → is_settled whole core sure (node_box left top s) ≡ false
+  one_named : (n : ℕ) (s : Sums) → is_whole_node threshold rows n ≡ true → is_box_settled whole core sure (node_box left top s) ≡ false
       → open_among threshold rows left top whole core sure ((n, s) ∷ []) ≡ box_extent (node_box left top s) ∷ []
   unfolding open_among
   one_named n s is_whole free =
       subst (λ (a : Bool). map (λ (e : ℕ × Sums). box_extent (node_box left top e.1))
-      (cond (a && not (is_settled whole core sure (node_box left top s))) ((n, s) ∷ []) []) ≡ box_extent (node_box left top s) ∷ []) (sym is_whole)
+      (cond (a && not (is_box_settled whole core sure (node_box left top s))) ((n, s) ∷ []) []) ≡ box_extent (node_box left top s) ∷ []) (sym is_whole)
       (subst (λ (b : Bool). map (λ (e : ℕ × Sums). box_extent (node_box left top e.1)) (cond (true && not b) ((n, s) ∷ []) [])
       ≡ box_extent (node_box left top s) ∷ []) (sym free) refl)
 
-  none_named : (n : ℕ) (s : Sums) → (is_whole_at threshold rows n && not (is_settled whole core sure (node_box left top s))) ≡ false
+  none_named : (n : ℕ) (s : Sums) → (is_whole_node threshold rows n && not (is_box_settled whole core sure (node_box left top s))) ≡ false
       → open_among threshold rows left top whole core sure ((n, s) ∷ []) ≡ []
   unfolding open_among
   none_named n s no_box =
@@ -91,7 +91,7 @@ module _ (threshold : ℤ) (rows : List NodeRow) (sums : List Sums) (left top : 
 
   pub one_more : (n : ℕ) (e : Sums) (boxes now : List Extent) (part : Extent) → AreOpened threshold rows sums left top whole core sure n boxes
       → AreOpenBoxes threshold rows sums left top whole core sure (n + 1) now → n < length sums → now ≡ boxes ++ part ∷ []
-      → is_whole_at threshold rows n ≡ true → is_settled whole core sure (node_box left top (get_or sums n e)) ≡ false
+      → is_whole_node threshold rows n ≡ true → is_box_settled whole core sure (node_box left top (get_or sums n e)) ≡ false
       → extent_box part ≡ node_box left top (get_or sums n e) → IsBoxOf whole (extent_box part)
       → AreOpened threshold rows sums left top whole core sure (n + 1) now
   one_more n e boxes now part before told within pushed is_whole free box of = record {
@@ -110,7 +110,7 @@ module _ (threshold : ℤ) (rows : List NodeRow) (sums : List Sums) (left top : 
 
   pub no_more : (n : ℕ) (e : Sums) (boxes now : List Extent) → AreOpened threshold rows sums left top whole core sure n boxes
       → AreOpenBoxes threshold rows sums left top whole core sure (n + 1) now → n < length sums → now ≡ boxes
-      → (is_whole_at threshold rows n && not (is_settled whole core sure (node_box left top (get_or sums n e)))) ≡ false
+      → (is_whole_node threshold rows n && not (is_box_settled whole core sure (node_box left top (get_or sums n e)))) ≡ false
       → AreOpened threshold rows sums left top whole core sure (n + 1) now
   no_more n e boxes now before told within same no_box = record {
     told = told;
@@ -128,11 +128,11 @@ module _ (threshold : ℤ) (rows : List NodeRow) (sums : List Sums) (left top : 
 
   -- a node that is no whole component
   pub none_more : (n : ℕ) (boxes now : List Extent) → AreOpened threshold rows sums left top whole core sure n boxes
-      → AreOpenBoxes threshold rows sums left top whole core sure (n + 1) now → n < length sums → now ≡ boxes → is_whole_at threshold rows n ≡ false
+      → AreOpenBoxes threshold rows sums left top whole core sure (n + 1) now → n < length sums → now ≡ boxes → is_whole_node threshold rows n ≡ false
       → AreOpened threshold rows sums left top whole core sure (n + 1) now
   none_more n boxes now before told within same low =
       no_more n (some sums within) boxes now before told within same
-      (and_left (is_whole_at threshold rows n) (not (is_settled whole core sure (node_box left top (get_or sums n (some sums within))))) low)
+      (and_left (is_whole_node threshold rows n) (not (is_box_settled whole core sure (node_box left top (get_or sums n (some sums within))))) low)
     where
       some : (xs : List Sums) → n < length xs → Sums
       some [] l = absurd (omega (arith, l))

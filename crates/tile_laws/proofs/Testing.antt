@@ -8,14 +8,14 @@ use Rattle.comp_tree.specs.ComponentTree.{no_node, parent_in}
 use Rattle.comp_tree.specs.Nesting.{level_in}
 use Rattle.comp_tree.specs.Windows.{IsDeep}
 use Rattle.tile_laws.specs.Knowing.{IsSettled, IsBoxDeep, IsWholeAt}
-use Rattle.tile_laws.specs.Opening.{is_whole_at, do_meet, is_box_within, lie_deep_along, is_settled}
+use Rattle.tile_laws.specs.Opening.{is_whole_node, share_pixels, holds_box, lie_deep_along, is_box_settled}
 use Rattle.tile_laws.specs.Opening.{WholeTestIsExact, MeetingTestIsExact, WithinTestIsExact, SettledTestIsExact}
 use Rattle.tile_laws.proofs.Depth.{deep_box, deep_columns, deep_rows}
 
 -- ---- whole components
 
 pub whole_test_is_exact : WholeTestIsExact
-unfolding is_whole_at
+unfolding is_whole_node
 whole_test_is_exact threshold rows n = (there, back)
   where
     parent : ℕ
@@ -55,7 +55,7 @@ four_from : (p q r s : Bool) → p ≡ true → q ≡ true → r ≡ true → s 
 four_from p q r s a b c d = and_from (p && q) (r && s) (and_from p q a b) (and_from r s c d)
 
 pub meeting_test_is_exact : MeetingTestIsExact
-unfolding do_meet
+unfolding share_pixels
 meeting_test_is_exact a b = (
   (λ k. let p = four_parts (nat_lt a.left b.right) (nat_lt b.left a.right) (nat_lt a.top b.bottom) (nat_lt b.top a.bottom) k in
       record {
@@ -69,7 +69,7 @@ meeting_test_is_exact a b = (
 )
 
 pub within_test_is_exact : WithinTestIsExact
-unfolding is_box_within
+unfolding holds_box
 within_test_is_exact outer inner = (
   (λ k. let p =
       four_parts (nat_le outer.left inner.left) (nat_le inner.right outer.right) (nat_le outer.top inner.top) (nat_le inner.bottom outer.bottom) k in
@@ -141,8 +141,8 @@ module _ (from to low high side : ℕ) (some : from < to) where
 -- ---- boxes that are settled
 
 pub settled_test_is_exact : SettledTestIsExact
-unfolding is_settled
-settled_test_is_exact whole core sure box of = (there, back (cases_Bool (do_meet core box)))
+unfolding is_box_settled
+settled_test_is_exact whole core sure box of = (there, back (cases_Bool (share_pixels core box)))
   where
     across : Bool
     across = lie_deep_along box.left box.right sure.left sure.right whole.width
@@ -150,22 +150,22 @@ settled_test_is_exact whole core sure box of = (there, back (cases_Bool (do_meet
     along : Bool
     along = lie_deep_along box.top box.bottom sure.top sure.bottom whole.height
 
-    there : (not (do_meet core box) || (lie_deep_along box.left box.right sure.left sure.right whole.width
+    there : (not (share_pixels core box) || (lie_deep_along box.left box.right sure.left sure.right whole.width
         && lie_deep_along box.top box.bottom sure.top sure.bottom whole.height)) ≡ true → IsSettled whole core sure box
-    there k meets = go (or_cases (not (do_meet core box)) (across && along) k)
+    there k meets = go (or_cases (not (share_pixels core box)) (across && along) k)
       where
-        go : (not (do_meet core box) ≡ true) ⊎ ((across && along) ≡ true) → IsBoxDeep whole sure box
-        go (inl apart) = absurd (true≢false (sym ((meeting_test_is_exact core box).1 meets) ∙ not-true (do_meet core box) apart))
+        go : (not (share_pixels core box) ≡ true) ⊎ ((across && along) ≡ true) → IsBoxDeep whole sure box
+        go (inl apart) = absurd (true≢false (sym ((meeting_test_is_exact core box).1 meets) ∙ not-true (share_pixels core box) apart))
         go (inr both) =
             let p = and_parts across along both in
             deep_box whole box sure (deep_from_test box.left box.right sure.left sure.right whole.width of.columns p.0)
             (deep_from_test box.top box.bottom sure.top sure.bottom whole.height of.rows p.1)
 
-    back : (do_meet core box ≡ true) ⊎ (do_meet core box ≡ false) → IsSettled whole core sure box → (not (do_meet core box) || (across && along)) ≡ true
+    back : (share_pixels core box ≡ true) ⊎ (share_pixels core box ≡ false) → IsSettled whole core sure box → (not (share_pixels core box) || (across && along)) ≡ true
     back (inl meet) settled =
         let deep : IsBoxDeep whole sure box = settled ((meeting_test_is_exact core box).0 meet) in
-        or_right (not (do_meet core box)) (across && along)
+        or_right (not (share_pixels core box)) (across && along)
         (and_from across along
         (test_from_deep box.left box.right sure.left sure.right whole.width of.columns (deep_columns whole box sure of.rows of.right deep))
         (test_from_deep box.top box.bottom sure.top sure.bottom whole.height of.rows (deep_rows whole box sure of.columns of.right deep)))
-    back (inr apart) settled = or_left (not (do_meet core box)) (across && along) (not_from_false (do_meet core box) apart)
+    back (inr apart) settled = or_left (not (share_pixels core box)) (across && along) (not_from_false (share_pixels core box) apart)

@@ -1,10 +1,9 @@
 -- The sure box and the open boxes, as they are defined.
-use Rattle.std.proofs.Common.{◌≡◌, ℕ, ◌<◌, Bool, true, false, cond, ◌||◌, ◌==◌, List, [], ◌∷◌, length, refl, sym, ◌∙◌, ap, subst, arith, Option, Some, None}
+use Rattle.std.proofs.Common.{◌≡◌, ℕ, ◌<◌, Bool, true, false, ◌||◌, ◌==◌, List, [], ◌∷◌, refl, sym, ◌∙◌, ap, subst, arith, Option, Some, None}
 use Rattle.std.specs.Prelude.{ℤ}
 use Rattle.std.specs.List.{All}
 use Rattle.std.proofs.lemmas.Bool.{cond-true, cond-false, or_from, or_left, or_right, ne_eqb, eq-eqb}
 use Rattle.std.proofs.lemmas.List.Elements.{All-cons, All-nil, All-same}
-use Rattle.comp_tree.specs.declared.shape.Shape.{Shape}
 use Rattle.comp_tree.specs.declared.tree.NodeRow.{NodeRow}
 use Rattle.comp_tree.specs.Raster.{Raster}
 use Rattle.comp_tree.specs.Windows.{Box}
@@ -12,7 +11,7 @@ use Rattle.node_sums.specs.declared.entry.Sums.{Sums}
 use Rattle.tile_laws.specs.declared.extents.Extent.{Extent}
 use Rattle.tile_laws.specs.Clear.{clear_box}
 use Rattle.tile_laws.specs.Extents.{extent_box, box_extent}
-use Rattle.tile_laws.specs.Opening.{is_box_within, open_extents, IsBoxOf}
+use Rattle.tile_laws.specs.Opening.{holds_box, open_extents, IsBoxOf}
 use Rattle.tile_make.specs.declared.placing.TilePlace.{TilePlace}
 use Rattle.tile_make.specs.Placed.{window_of_place}
 use Rattle.tile_make.specs.TileOf.{has_full_mesh, sure_extent_of, core_box, left_open}
@@ -60,26 +59,26 @@ module _ (threshold : ℤ) (place : TilePlace) (rows : List NodeRow) (sums : Lis
   core_alone sure none boxes alone =
       alone ∙ one_core ∙ ap (λ (o : Option Extent). left_open threshold place o rows sums) (sym none)
 
-  pub core_beyond : (sure : Option Extent) (known : Extent) → sure ≡ Some known → is_box_within (extent_box known) (extent_box core) ≡ false
+  pub core_beyond : (sure : Option Extent) (known : Extent) → sure ≡ Some known → holds_box (extent_box known) (extent_box core) ≡ false
       → (boxes : List Extent) → boxes ≡ core ∷ [] → boxes ≡ left_open threshold place sure rows sums
   unfolding left_open
   core_beyond sure known some beyond boxes alone =
       alone ∙ one_core
-      ∙ sym (cond-false (is_box_within (extent_box known) (core_box place))
+      ∙ sym (cond-false (holds_box (extent_box known) (core_box place))
       (open_extents threshold rows sums place.left place.top place.whole (core_box place) (extent_box known)) (box_extent (core_box place) ∷ [])
-      (subst (λ (b : Box). is_box_within (extent_box known) b ≡ false) is beyond))
+      (subst (λ (b : Box). holds_box (extent_box known) b ≡ false) is beyond))
       ∙ ap (λ (o : Option Extent). left_open threshold place o rows sums) (sym some)
 
-  pub core_known : (sure : Option Extent) (known : Extent) → sure ≡ Some known → is_box_within (extent_box known) (extent_box core) ≡ true
+  pub core_known : (sure : Option Extent) (known : Extent) → sure ≡ Some known → holds_box (extent_box known) (extent_box core) ≡ true
       → (boxes : List Extent) → boxes ≡ open_extents threshold rows sums place.left place.top place.whole (extent_box core) (extent_box known)
       → boxes ≡ left_open threshold place sure rows sums
   unfolding left_open
   core_known sure known some within boxes are =
       are
       ∙ ap (λ (b : Box). open_extents threshold rows sums place.left place.top place.whole b (extent_box known)) is
-      ∙ sym (cond-true (is_box_within (extent_box known) (core_box place))
+      ∙ sym (cond-true (holds_box (extent_box known) (core_box place))
       (open_extents threshold rows sums place.left place.top place.whole (core_box place) (extent_box known)) (box_extent (core_box place) ∷ [])
-      (subst (λ (b : Box). is_box_within (extent_box known) b ≡ true) is within))
+      (subst (λ (b : Box). holds_box (extent_box known) b ≡ true) is within))
       ∙ ap (λ (o : Option Extent). left_open threshold place o rows sums) (sym some)
 
   pub core_within : (boxes : List Extent) → boxes ≡ core ∷ [] → IsBoxOf place.whole (core_box place) → All (λ found. IsBoxOf place.whole (extent_box found)) boxes

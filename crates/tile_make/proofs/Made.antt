@@ -37,7 +37,7 @@ use Rattle.tile_join.specs.Made.{own_rows, piece_of, IsTileMade}
 use Rattle.tile_make.specs.declared.placing.TilePlace.{TilePlace}
 use Rattle.tile_make.specs.Placed.{window_of_place, detection_of}
 use Rattle.tile_make.specs.TileOf.{frame_at, kept_of, left_open, own_of, sure_extent_of, IsTileOfWindow}
-use Rattle.tile_make.specs.Told.{MakingLaws, HasFullMesh, IsPlacedWell, IsSureExtent, IsKnown, IsTold}
+use Rattle.tile_make.specs.Told.{MakingLaws, HasNoEmptyCell, IsPlacedWell, IsSureExtent, IsKnown, IsTold}
 
 -- ---- the plane that is kept
 
@@ -89,7 +89,7 @@ knows_from_kept s connect h whole w core sure knows q b in_core high path =
 -- ---- the background
 
 -- each cell that a pixel needs has a defined pixel where all cells have
-full_cells : (s : Raster) (w : Window) (flat : Bool) (mesh q : ℕ) → s.shape ≡ w.shape → HasFullMesh s mesh → HasDefinedCellsIn s w flat mesh q
+full_cells : (s : Raster) (w : Window) (flat : Bool) (mesh q : ℕ) → s.shape ≡ w.shape → HasNoEmptyCell s mesh → HasDefinedCellsIn s w flat mesh q
 full_cells s w flat mesh q same full c d few_columns few_rows column row = (found.0, found.1, place ∙ found.2)
   where
     columns : ℕ
@@ -181,7 +181,7 @@ module _ (laws : MakingLaws) (order : Order) (choice : Choice) (place : TilePlac
         clear = clear;
         defined = λ q some in_box defined.
             full_cells (seen_through w r) w order.flat order.mesh q (seen-shape w r)
-            (subst (λ (s : Raster). HasFullMesh s order.mesh) (sym seen) (is.full e some));
+            (subst (λ (s : Raster). HasNoEmptyCell s order.mesh) (sym seen) (is.full e some));
       }
 
   answers_by : (extent : Extent) → IsSureExtent order.flat order.mesh image place extent

@@ -1,8 +1,8 @@
 -- The cells of a mesh that are marked, and whether all are.
-use Rattle.std.proofs.Common.{◌≡◌, ℕ, ◌+◌, ◌<◌, ◌≤◌, ◌↔◌, Bool, true, false, not, List, length, refl, sym, ◌∙◌, ap, subst, arith, ◌⊎◌, inl, inr, get_or, set}
+use Rattle.std.proofs.Common.{◌≡◌, ℕ, ◌+◌, ◌<◌, ◌≤◌, ◌↔◌, Bool, true, false, List, length, sym, ◌∙◌, ap, subst, arith, ◌⊎◌, inl, inr, get_or, set}
 use Rattle.std.specs.Prelude.{IsTrue, ◌==◌, filter}
 use Rattle.std.specs.List.{list_any, list_all, range_with_len}
-use Rattle.std.proofs.lemmas.Bool.{cases_eq, cases_lt, eqb-true, eq-eqb, false_from_ne_true, true_from_ne_false, true≢false}
+use Rattle.std.proofs.lemmas.Bool.{cases_eq, cases_lt, eqb-true, eq-eqb, true≢false}
 use Rattle.std.proofs.lemmas.List.{get_or-set_same, get_or-set_other}
 use Rattle.std.proofs.lemmas.List.Elements.{All-from_get_or}
 use Rattle.std.proofs.lemmas.List.Sums.{AllPass-from_list_all, list_all-from_AllPass}
@@ -11,15 +11,15 @@ use Rattle.comp_tree.specs.Raster.{Raster, is_defined, pixels}
 use Rattle.comp_tree.proofs.Exported.{all_from, all_gives, among_from_defined, below_from_defined}
 use Rattle.mesh_background.specs.Mesh.{cell_count, cell_pixels, mesh_cell_of}
 use Rattle.tile_make.specs.TileOf.{has_full_mesh}
-use Rattle.tile_make.specs.Told.{AreMarkedCells, HasFullMesh}
+use Rattle.tile_make.specs.Told.{AreMarkedCells, HasNoEmptyCell}
 
 -- the test says so
-pub full_mesh_says : (s : Raster) (mesh : ℕ) → IsTrue (has_full_mesh s mesh) ↔ HasFullMesh s mesh
+pub full_mesh_says : (s : Raster) (mesh : ℕ) → IsTrue (has_full_mesh s mesh) ↔ HasNoEmptyCell s mesh
 unfolding has_full_mesh cell_pixels
 full_mesh_says s mesh = (there, back)
   where
     there : list_all (λ k. list_any (is_defined s) (filter (λ p. mesh_cell_of mesh s.shape.width p == k) (pixels s)))
-        (range_with_len 0 (cell_count mesh s.shape)) ≡ true → HasFullMesh s mesh
+        (range_with_len 0 (cell_count mesh s.shape)) ≡ true → HasNoEmptyCell s mesh
     there all k below =
         let w : IsWitness (is_defined s) (filter (λ p. mesh_cell_of mesh s.shape.width p == k) (pixels s)) =
         witness_from_any (is_defined s) (filter (λ p. mesh_cell_of mesh s.shape.width p == k) (pixels s))
@@ -28,7 +28,7 @@ full_mesh_says s mesh = (there, back)
         let m = among_from_filter (λ p. mesh_cell_of mesh s.shape.width p == k) w.it (pixels s) w.among in
         (w.it, w.passes, eqb-true (mesh_cell_of mesh s.shape.width w.it) k m.1)
 
-    back : HasFullMesh s mesh → list_all (λ k. list_any (is_defined s) (filter (λ p. mesh_cell_of mesh s.shape.width p == k) (pixels s)))
+    back : HasNoEmptyCell s mesh → list_all (λ k. list_any (is_defined s) (filter (λ p. mesh_cell_of mesh s.shape.width p == k) (pixels s)))
         (range_with_len 0 (cell_count mesh s.shape)) ≡ true
     back full =
         all_from (λ j. list_any (is_defined s) (filter (λ p. mesh_cell_of mesh s.shape.width p == j) (pixels s))) (range_with_len 0 (cell_count mesh s.shape))
@@ -92,7 +92,7 @@ module _ (s : Raster) (mesh : ℕ) where
       there : list_all (λ b. b) found ≡ true → has_full_mesh s mesh ≡ true
       there k = (full_mesh_says s mesh).1 (λ j below. marked.each j (AllPass-from_list_all (λ b. b) found k j false (omega (arith, below, one_each))))
 
-      each : HasFullMesh s mesh → (j : ℕ) → j < length found → get_or found j false ≡ true
+      each : HasNoEmptyCell s mesh → (j : ℕ) → j < length found → get_or found j false ≡ true
       each full j l = go (full j (omega (arith, l, one_each)))
         where
           go : (b : ℕ) × IsTrue (is_defined s b) × (cell b ≡ j) → get_or found j false ≡ true

@@ -1,10 +1,10 @@
 -- A row that is moved to the image, as the code moves it, and where its first pixel stands.
 use Rattle.std.proofs.Common.{◌≡◌, ℕ, ◌+◌, ◌-◌, ◌*◌, ◌/◌, ◌%◌, ◌^◌, ◌<◌, ◌≤◌, List, [], ◌∷◌, ◌++◌, get_or, length, map, take, take_all, refl, sym, ◌∙◌, ap, subst, arith, ℤ, neg_ℤ, lit<}
-use Rattle.std.specs.List.{enumerate_from}
+use Rattle.std.specs.List.{enumerate_from, All, AllByRecursion}
 use Rattle.std.proofs.lemmas.List.{take_more, length-map, get_or-map, map-append}
-use Rattle.std.proofs.lemmas.List.Elements.{filter-append}
+use Rattle.std.proofs.lemmas.List.Elements.{filter-append, All-from_recursion}
 use Rattle.std.proofs.lemmas.List.FromFn.{length-enumerate_from, get_or-enumerate_from}
-use Rattle.std.specs.Prelude.{filter, pos, ◌+ℤ◌, ◌*ℤ◌, ◌≤ℤ◌}
+use Rattle.std.specs.Prelude.{FitsSigned, filter, pos, ◌+ℤ◌, ◌*ℤ◌, ◌≤ℤ◌}
 use Rattle.std.proofs.lemmas.Int.{ints, to_z-of_z, to_z_pos}
 use Rattle.std.proofs.lemmas.Nat.{mod_below}
 use mir.Syntax.{w64}
@@ -19,7 +19,7 @@ use Rattle.node_sums.specs.declared.entry.Sums.{Sums}
 use Rattle.node_sums.specs.Sums.{sums_of}
 use Rattle.node_sums.proofs.Exported.{fits}
 use Rattle.source_pick.specs.declared.catalogue.CatRow.{CatRow}
-use Rattle.source_pick.specs.Catalogue.{catalogue_of, catalogue_row, measured_row, moved_row, FitsColumn, FitsColumns, IsCentred}
+use Rattle.source_pick.specs.Catalogue.{catalogue_of, catalogue_row, measured_row, cells_of, moved_row, FitsColumn, FitsColumns, IsCentred}
 use Rattle.source_pick.proofs.Exported.{first_inside}
 use Rattle.tile_laws.specs.Knowing.{HasBoxIn}
 use Rattle.tile_laws.specs.Pieces.{first_pixel}
@@ -152,6 +152,14 @@ moved_fits r connect number n whole w row plane node same inside is columns cent
 
     top : w.top ≤ 65535
     top = omega (arith, inside.rows, whole_high)
+
+-- all of them fit 64 bits
+pub moved_whole : (w : Window) (row : CatRow) → AllByRecursion (FitsSigned w64) (cells_of row) → FitsColumns (moved_row w row)
+    → All (FitsSigned w64) (cells_of (moved_row w row))
+unfolding moved_row
+moved_whole w row all columns =
+    All-from_recursion (FitsSigned w64) (cells_of (moved_row w row))
+    (column_fits _ columns.number, (all.1.0, (all.1.1.0, (column_fits _ columns.area, (all.1.1.1.1.0, (all.1.1.1.1.1.0, (column_fits _ columns.xmin, (column_fits _ columns.xmax, (column_fits _ columns.ymin, (column_fits _ columns.ymax, (column_fits _ columns.xfirst, (column_fits _ columns.yfirst, (column_fits _ columns.xcen, (column_fits _ columns.ycen, (all.1.1.1.1.1.1.1.1.1.1.1.1.1.1.0, (all.1.1.1.1.1.1.1.1.1.1.1.1.1.1.1.0, (all.1.1.1.1.1.1.1.1.1.1.1.1.1.1.1.1.0, tt)))))))))))))))))
 
 -- ---- rows one behind the other
 

@@ -1,5 +1,5 @@
 -- A tile has numbers for which a file has room.
-use Rattle.std.proofs.Common.{◌≡◌, ℕ, ◌+◌, ◌*◌, ◌<◌, ◌≤◌, true, List, length, refl, sym, ◌∙◌, ap, arith}
+use Rattle.std.proofs.Common.{◌≡◌, ℕ, ◌+◌, ◌<◌, ◌≤◌, true, List, arith}
 use Rattle.std.specs.Prelude.{nat_le, slice_index}
 use Rattle.std.specs.List.{All}
 use Rattle.std.proofs.lemmas.Bool.{and_from, le-leb}
@@ -48,8 +48,7 @@ short_sides whole boxes inside =
         → (e.columns.to ≤ 65535) × (e.columns.from ≤ 65535) × (e.rows.to ≤ 65535) × (e.rows.from ≤ 65535)
     one e of =
         let w : whole.width ≤ 65535 = whole.within_limits.few_columns in
-        let h : whole.height ≤ 65535 = whole.within_limits.few_rows in
-        (
+        let h : whole.height ≤ 65535 = whole.within_limits.few_rows in (
           omega (arith, w, of.right),
           omega (arith, w, of.right, of.columns),
           omega (arith, h, of.bottom),

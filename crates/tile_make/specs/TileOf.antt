@@ -1,5 +1,6 @@
 -- Model: the tile that a window's image gives, told to the last number: a function of what is asked and of this image alone.
-use Rattle.std.specs.Prelude.{◌≡◌, ℕ, ◌*◌, ◌≤◌, Bool, true, ◌||◌, ◌==◌, if◌then◌else◌, ℤ, List, [], ◌∷◌, length, map, filter, Option, Some, None}
+use Rattle.std.specs.Prelude.{◌≡◌, ℕ, ◌*◌, ◌≤◌, Bool, true, ◌||◌, ◌==◌, if◌then◌else◌, ℤ, List, [], ◌∷◌, length, map, filter, Option, Some, None, FitsSigned}
+use Rattle.std.specs.Int.{w64}
 use Rattle.std.specs.List.{All, list_any, list_all, range_with_len}
 use Rattle.comp_tree.specs.declared.shape.Shape.{Shape}
 use Rattle.comp_tree.specs.declared.tree.NodeRow.{NodeRow}
@@ -12,13 +13,13 @@ use Rattle.node_sums.specs.declared.entry.Sums.{Sums}
 use Rattle.node_sums.specs.Sums.{sums_in}
 use Rattle.source_pick.specs.declared.choice.Choice.{Choice}
 use Rattle.source_pick.specs.declared.catalogue.CatRow.{CatRow}
-use Rattle.source_pick.specs.Catalogue.{catalogue, moved_row, FitsColumns}
+use Rattle.source_pick.specs.Catalogue.{catalogue, cells_of, moved_row, FitsColumns}
 use Rattle.source_pick.specs.Segmentation.{segmentation}
 use Rattle.source_pick.specs.Locality.{kept}
 use Rattle.tile_laws.specs.declared.extents.Extent.{Extent}
 use Rattle.tile_laws.specs.Clear.{clear_box, window_box}
 use Rattle.tile_laws.specs.Extents.{extent_box, box_extent}
-use Rattle.tile_laws.specs.Opening.{is_box_within, open_extents}
+use Rattle.tile_laws.specs.Opening.{holds_box, open_extents}
 use Rattle.tile_laws.specs.Pieces.{first_pixel}
 use Rattle.orders.specs.declared.words.Order.{Order}
 use Rattle.tile_join.specs.declared.tiles.Frame.{Frame}
@@ -55,7 +56,7 @@ core_box place = window_box (window_of place.core)
 unfoldable pub left_open : ℤ → TilePlace → Option Extent → List NodeRow → List Sums → List Extent
 left_open threshold place None rows sums = box_extent (core_box place) ∷ []
 left_open threshold place (Some sure) rows sums =
-    if is_box_within (extent_box sure) (core_box place)
+    if holds_box (extent_box sure) (core_box place)
     then open_extents threshold rows sums place.left place.top place.whole (core_box place) (extent_box sure) else box_extent (core_box place) ∷ []
 
 -- the plane whose components are looked at: what is left of the image without its background, near the pixels of at least the threshold
@@ -84,7 +85,7 @@ pub record IsTileOfWindow (order : Order) (choice : Choice) (place : TilePlace) 
 
 -- ---- what a file has room for
 
--- the frames of a tile lie in the image, and its numbers are small: those of a row fit its columns, and there are few rows and boxes
+-- the frames of a tile lie in the image, and its numbers are small: those of a row fit its columns, and all of them 64 bits; there are few rows and boxes
 pub record IsStorable (t : TileCatalogue) : Type 0 where
   pub window : is_frame_of t.whole t.window ≡ true
   pub core : is_frame_of t.whole t.core ≡ true
@@ -93,4 +94,5 @@ pub record IsStorable (t : TileCatalogue) : Type 0 where
   pub map_length : length t.map.items ≡ t.window.shape.width * t.window.shape.height
   pub small : All (λ n. n ≤ 2147483647) t.map.items
   pub rows : All FitsColumns t.rows.items
+  pub whole_rows : All (λ row. All (FitsSigned w64) (cells_of row)) t.rows.items
   pub few_rows : length t.rows.items ≤ 2147483647

@@ -1,5 +1,7 @@
 -- Bookkeeping: what is known on the way to a tile.
-use Rattle.std.specs.Prelude.{◌≡◌, ℕ, ◌<◌, Bool, true, false, IsTrue, slice_index_or, List, [], length, Option, Some, pos, ◌≤ℤ◌}
+use Rattle.std.specs.Prelude.{◌≡◌, ℕ, ◌<◌, Bool, true, false, IsTrue, slice_index_or, List, [], length, Option, Some, pos, ◌≤ℤ◌, FitsSigned}
+use Rattle.std.specs.Int.{w64}
+use Rattle.std.specs.List.{All}
 use Rattle.comp_tree.specs.declared.shape.Shape.{Shape}
 use Rattle.comp_tree.specs.declared.shape.Connect.{Connect}
 use Rattle.comp_tree.specs.Raster.{Raster, is_defined}
@@ -11,7 +13,7 @@ use Rattle.mesh_background.specs.Laws.{ResidualIsPlane}
 use Rattle.node_sums.specs.Sums.{sums_in}
 use Rattle.source_pick.specs.declared.choice.Choice.{Choice}
 use Rattle.source_pick.specs.declared.catalogue.CatRow.{CatRow}
-use Rattle.source_pick.specs.Catalogue.{catalogue}
+use Rattle.source_pick.specs.Catalogue.{catalogue, cells_of, FitsColumns}
 use Rattle.source_pick.specs.Segmentation.{segmentation}
 use Rattle.source_pick.specs.Locality.{KeptIsAPlane}
 use Rattle.tile_laws.specs.declared.extents.Extent.{Extent}
@@ -38,19 +40,24 @@ pub record FirstStandsIn (whole : Shape) (row : CatRow) : Type 0 where
   pub top : pos 1 ≤ℤ row.yfirst
   pub bottom : row.yfirst ≤ℤ pos whole.height
 
+-- the numbers of a row fit the columns of a table, and 64 bits
+pub record IsStorableRow (row : CatRow) : Type 0 where
+  pub columns : FitsColumns row
+  pub whole : All (FitsSigned w64) (cells_of row)
+
 -- the cells of a plane's mesh that have one of the first pixels, a defined one, are marked, and others aren't
 pub record AreMarkedCells (s : Raster) (mesh count : ℕ) (found : List Bool) : Type 0 where
   pub all : (b : ℕ) → b < count → IsTrue (is_defined s b) → slice_index_or found (mesh_cell_of mesh s.shape.width b) false ≡ true
   pub each : (k : ℕ) → slice_index_or found k false ≡ true → (b : ℕ) × IsTrue (is_defined s b) × (mesh_cell_of mesh s.shape.width b ≡ k)
 
 -- each cell of a plane's mesh has a defined pixel
-abbrev pub HasFullMesh : Raster → ℕ → Type 0
-HasFullMesh s mesh = (k : ℕ) → k < cell_count mesh s.shape → (b : ℕ) × IsTrue (is_defined s b) × (mesh_cell_of mesh s.shape.width b ≡ k)
+abbrev pub HasNoEmptyCell : Raster → ℕ → Type 0
+HasNoEmptyCell s mesh = (k : ℕ) → k < cell_count mesh s.shape → (b : ℕ) × IsTrue (is_defined s b) × (mesh_cell_of mesh s.shape.width b ≡ k)
 
 -- the box in which a window's background is the image's
 pub record IsSureExtent (flat : Bool) (mesh : ℕ) (s : Raster) (place : TilePlace) (sure : Extent) : Type 0 where
   pub box : extent_box sure ≡ clear_box flat mesh place.whole (window_of_place place s.shape)
-  pub full : flat ≡ false → 0 < mesh → HasFullMesh s mesh
+  pub full : flat ≡ false → 0 < mesh → HasNoEmptyCell s mesh
 
 -- nothing is open: the core lies in the sure box, and the whole components of the plane that meet it are settled
 pub record IsKnown (k : Raster) (connect : Connect) (choice : Choice) (place : TilePlace) (sure : Option Extent) : Type 0 where

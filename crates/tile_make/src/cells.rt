@@ -7,7 +7,7 @@ ghost use Rattle.mesh_background.specs.Mesh.{cell_count, cells_along, mesh_cell_
 ghost use Rattle.orders.specs.Words.{HasLimits};
 ghost use Rattle.tile_make.specs.Placed.{window_of_place};
 ghost use Rattle.tile_make.specs.TileOf.{has_full_mesh as is_full, sure_extent_of};
-ghost use Rattle.tile_make.specs.Told.{AreMarkedCells, HasFullMesh, IsSureExtent};
+ghost use Rattle.tile_make.specs.Told.{AreMarkedCells, HasNoEmptyCell, IsSureExtent};
 
 use crate::placing::TilePlace;
 use comp_tree::{Plane, Shape};
@@ -47,7 +47,7 @@ fn has_full_mesh(alloc: Global, image: &Plane, mesh: u32) -> Result<bool, OutOfM
     requires some { 0 < mesh }
     requires few { mesh ≤ 65535 }
     ensures exact { IfOk result (λ full. full ≡ is_full image.now mesh) }
-    ensures full { IfOk result (λ full. IsTrue full → HasFullMesh image.now mesh) }
+    ensures full { IfOk result (λ full. IsTrue full → HasNoEmptyCell image.now mesh) }
 {
     let cells = cells_of(image.shape(), mesh);
     let mut found = vec![in alloc; false; cells as usize]?;

@@ -7,7 +7,7 @@ ghost use Rattle.node_sums.specs.Sums.{AreTheTrees, ForEachPlaneOf};
 ghost use Rattle.tile_laws.specs.Clear.{IsBoxWithin};
 ghost use Rattle.tile_laws.specs.Extents.{extent_box};
 ghost use Rattle.tile_make.specs.Placed.{window_of_place};
-ghost use Rattle.tile_laws.specs.Opening.{is_box_within, IsBoxOf};
+ghost use Rattle.tile_laws.specs.Opening.{holds_box, IsBoxOf};
 ghost use Rattle.tile_make.specs.TileOf.{core_box, left_open};
 ghost use Rattle.tile_make.specs.Told.{IsKnown};
 
@@ -62,9 +62,9 @@ fn all_open(alloc: Global, core: Extent) -> Result<Vec<Extent>, AllocError>
 }
 
 // Whether a box lies in another one.
-#[tactic(auto, unfolding(tile_laws::specs::Opening::is_box_within))]
+#[tactic(auto, unfolding(tile_laws::specs::Opening::holds_box))]
 fn lies_within(inner: &Extent, outer: &Extent) -> bool
-    ensures exact { result ≡ is_box_within (extent_box outer.now) (extent_box inner.now) }
+    ensures exact { result ≡ holds_box (extent_box outer.now) (extent_box inner.now) }
     ensures within { IsTrue result ↔ IsBoxWithin (extent_box outer.now) (extent_box inner.now) }
 {
     lies_along(&inner.columns, &outer.columns) && lies_along(&inner.rows, &outer.rows)

@@ -3,7 +3,7 @@ use Rattle.std.proofs.lemmas.Bool.{and_right, not_from_true, true≢false}
 use Rattle.comp_tree.specs.Windows.{Box}
 use Rattle.tile_laws.specs.Knowing.{IsSettled}
 use Rattle.tile_laws.specs.Extents.{extent_box}
-use Rattle.tile_laws.specs.Opening.{is_whole_at, IsBoxOf}
+use Rattle.tile_laws.specs.Opening.{is_whole_node, IsBoxOf}
 use Rattle.tile_laws.proofs.NodeBoxes.{entry_inside, boxed, nothing_opened, none_opened, one_opened, passed_over, settled_up_to}
 use Rattle.tile_laws.proofs.Fewer.{few_of_tree, few_is}
 use Rattle.tile_laws.proofs.Opened.{whole_told, settled_told, none_opened_yet, one_more, no_more, none_more, all_opened}
@@ -63,7 +63,7 @@ loop-n-preserved c =
           (none_opened threshold rows sums left top whole core sure n _ before now c.loop-n.invariant.told (ap (λ v. v.items) w.boxes-is)
           (λ k. subst (λ (b : Box). IsSettled whole core sure b) box.same (w.is_settled.ensures.0 w.if-not-is_settled.false)))
           within (ap (λ v. v.items) w.boxes-is)
-          (and_right (is_whole_at threshold rows n) _
+          (and_right (is_whole_node threshold rows n) _
           (not_from_true _
           (settled_told whole core sure (extent_box w.box_of-part.result) _ w.is_settled.result _ box.same of w.is_settled.ensures w.if-not-is_settled.false)))
       | else-is_whole_at w ↦

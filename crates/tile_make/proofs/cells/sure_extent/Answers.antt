@@ -1,4 +1,4 @@
-use Rattle.std.proofs.Common.{◌≡◌, sym, ◌∙◌, ap, arith}
+use Rattle.std.proofs.Common.{sym, ◌∙◌, ap, arith}
 use Rattle.comp_tree.specs.declared.shape.Shape.{Shape}
 use Rattle.tile_laws.specs.Clear.{clear_box}
 use Rattle.tile_make.specs.Placed.{window_of_place}
