@@ -142,7 +142,7 @@ fn split_rows<'a>(
     let Some(split) = split_data(bytes, size * rows) else {
         return Ok(None)
     };
-    match read_rows(alloc, columns, split.data, rows) {
+    match read_rows(alloc, columns, split.bytes, rows) {
         Ok(cells) => Ok(Some(SplitTable {
             cells,
             rest: split.rest,

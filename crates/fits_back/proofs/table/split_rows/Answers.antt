@@ -12,6 +12,6 @@ returns-then-bytes-size-clause-none c =
 pub returns-in-Ok-clause-some : goal.returns-in-Ok-clause-some
 returns-in-Ok-clause-some c =
     let laws : TableLaws = record { read_back = c.written_cells_are_read_back.ensures.table; size = c.written_cells_are_read_back.ensures.size } in
-    rows_here laws c.args.columns.now c.args.bytes.now c.in-Some.split.«data».now c.in-Some.split.rest.now c.in-Ok.cells.items c.args.rows c.requires.some_columns
+    rows_here laws c.args.columns.now c.args.bytes.now c.in-Some.split.bytes.now c.in-Some.split.rest.now c.in-Ok.cells.items c.args.rows c.requires.some_columns
     c.requires.few_columns c.requires.plain_names c.requires.few_rows (λ k. Fits-lt-pow {w = w8} (c.type_inv.bytes k))
     (c.in-Some.ensures.1 ∙ ap (λ (n : ℕ). n * c.args.rows) c.row_size-size.ensures.size) c.in-Some.ensures.0 c.in-Ok.ensures
