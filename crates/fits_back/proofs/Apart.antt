@@ -13,7 +13,7 @@ use Rattle.fits_back.specs.Announced.{announced}
 use Rattle.fits_back.specs.Fronts.{BeginsNot}
 use Rattle.fits_back.specs.TableRows.{StandAsRows, BeginsWithNoRows}
 use Rattle.fits_back.proofs.Announcing.{Announces, table_announces}
-use Rattle.fits_back.proofs.Cells.{Laws}
+use Rattle.fits_back.proofs.Cells.{TableLaws}
 use Rattle.fits_back.proofs.Numbers.{data_told}
 
 -- ---- tables in the same bytes
@@ -33,7 +33,7 @@ data_behind name columns cells n bytes rest e is =
     is ∙ append_assoc (header (named_cards name columns (length cells / length columns))) (filled 0 (table_bytes columns cells)) rest
     ∙ ap (λ (k : ℕ). header (named_cards name columns k) ++ (filled 0 (table_bytes columns cells) ++ rest)) e
 
-pub tables_told : IntegerIsReadBack → Laws → (name : List ℕ) (columns : List Column) (xs ys : List ℤ) (a b : List ℕ) → IsTable columns xs → IsTable columns ys
+pub tables_told : IntegerIsReadBack → TableLaws → (name : List ℕ) (columns : List Column) (xs ys : List ℤ) (a b : List ℕ) → IsTable columns xs → IsTable columns ys
     → All (FitsSigned w64) xs → All (FitsSigned w64) ys → named_hdu name columns xs ++ a ≡ named_hdu name columns ys ++ b → (xs ≡ ys) × (a ≡ b)
 tables_told law laws name columns xs ys a b table other whole as_whole e =
     let bytes = named_hdu name columns ys ++ b in

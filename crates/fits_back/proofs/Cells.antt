@@ -22,7 +22,6 @@ use Rattle.fits_write.specs.Columns.{cell_size, cell_bytes, FitsCell, cell_at, n
 use Rattle.fits_write.specs.Rows.{front_cell, row_cells, table_cells}
 use Rattle.fits_write.specs.Laws.{WrittenTableIsReadBack, TableHasItsRowsBytes}
 use Rattle.fits_write.proofs.Exported.{length-row_cells, table_cells-more}
-use Rattle.fits_back.specs.Fronts.{BeginsWithNoData}
 use Rattle.fits_back.specs.TableRows.{StandAsRows, BeginsWithNoRows}
 use Rattle.fits_back.proofs.Bytes.{AreBytes, bytes-take, bytes-drop, bytes-concat, bytes_before, bytes_of_number, number_tells, parts_same}
 
@@ -190,11 +189,11 @@ unfolding table_bytes
 table_written columns cells = bytes-concat (bytes_at columns cells) (range_with_len 0 (length cells)) (written_at columns cells)
 
 -- what the laws of tables say
-pub record Laws : Type 0 where
+pub record TableLaws : Type 0 where
   pub read_back : WrittenTableIsReadBack
   pub size : TableHasItsRowsBytes
 
-written_again : Laws → (columns : List Column) (bytes : List ℕ) (cells : List ℤ) (n : ℕ) → IsTable columns cells → All (FitsSigned w64) cells
+written_again : TableLaws → (columns : List Column) (bytes : List ℕ) (cells : List ℤ) (n : ℕ) → IsTable columns cells → All (FitsSigned w64) cells
     → length cells / length columns ≡ n → length bytes ≡ row_size columns * n → AreBytes bytes → cells ≡ table_cells columns bytes n
     → table_bytes columns cells ≡ bytes
 written_again laws columns bytes cells n table whole count long are read =
@@ -210,7 +209,7 @@ data_are_bytes data_bytes rest are =
     let fill : List ℕ = replicate (room_after (length data_bytes)) 0 in
     bytes_before data_bytes fill (bytes_before (data_bytes ++ fill) rest are)
 
-pub rows_here : Laws → (columns : List Column) (bytes data_bytes rest : List ℕ) (cells : List ℤ) (n : ℕ) → 0 < length columns → length columns ≤ 99
+pub rows_here : TableLaws → (columns : List Column) (bytes data_bytes rest : List ℕ) (cells : List ℤ) (n : ℕ) → 0 < length columns → length columns ≤ 99
     → IsTrue (list_all (λ column. list_all is_plain column.name) columns) → n ≤ 2147483647 → AreBytes bytes → length data_bytes ≡ row_size columns * n
     → bytes ≡ filled 0 data_bytes ++ rest → cells ≡ table_cells columns data_bytes n → StandAsRows columns n bytes cells rest
 rows_here laws columns bytes data_bytes rest cells n some few plain rows all_are long split read =
@@ -238,15 +237,10 @@ length-filled byte bytes rest =
     let fill : List ℕ = replicate (room_after (length bytes)) byte in
     omega (arith, length-append (bytes ++ fill) rest, length-append bytes fill)
 
-pub rows_cut : Laws → (columns : List Column) (bytes : List ℕ) (size n : ℕ) → size ≡ row_size columns → 0 < size → length bytes / size < n
+pub rows_cut : TableLaws → (columns : List Column) (bytes : List ℕ) (size n : ℕ) → size ≡ row_size columns → 0 < size → length bytes / size < n
     → BeginsWithNoRows columns n bytes
 rows_cut laws columns bytes size n e some few = λ cells rest are.
     let written = table_bytes columns cells in
     let long : length written ≡ size * n = laws.size columns cells are.table ∙ ap₂ ◌*◌ (sym e) are.count in
     let within : length written ≤ length bytes = subst (λ l. length written ≤ length l) (sym are.bytes_are) (length-filled 0 written rest) in
     too_many size n (length bytes) some few (omega (arith, long, within))
-
-pub rows_missing : Laws → (columns : List Column) (bytes : List ℕ) (size n : ℕ) → size ≡ row_size columns → BeginsWithNoData (size * n) bytes
-    → BeginsWithNoRows columns n bytes
-rows_missing laws columns bytes size n e missing = λ cells rest are.
-    missing (table_bytes columns cells) rest (laws.size columns cells are.table ∙ ap₂ ◌*◌ (sym e) are.count) are.bytes_are

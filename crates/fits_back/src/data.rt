@@ -5,17 +5,17 @@ ghost use Rattle.fits_back.specs.Fronts.{BeginsWithNoData};
 
 use crate::front::strip_fill;
 
-/// The data at the front of bytes, and what stands behind its blocks.
+/// The bytes of data, and what stands behind their blocks.
 #[derive(Drop)]
 pub(crate) struct SplitData<'a> {
-    pub(crate) data: &'a [u8],
+    pub(crate) bytes: &'a [u8],
     pub(crate) rest: &'a [u8],
 }
 
-/// Data of `len` bytes at the front of these, if zero bytes fill it to whole blocks.
+/// Takes apart data of `len` bytes at the front of these, if zero bytes fill it to whole blocks.
 pub(crate) fn split_data(bytes: &[u8], len: usize) -> Option<SplitData<'_>>
     ensures { MatchOption result (BeginsWithNoData len bytes.now)
-        (λ split. (bytes.now ≡ filled 0 split.«data».now ++ split.rest.now) × (length split.«data».now ≡ len)) }
+        (λ split. (bytes.now ≡ filled 0 split.bytes.now ++ split.rest.now) × (length split.bytes.now ≡ len)) }
 {
     if bytes.len() < len {
         return None;
@@ -24,5 +24,5 @@ pub(crate) fn split_data(bytes: &[u8], len: usize) -> Option<SplitData<'_>>
     let Some(rest) = strip_fill(behind, 0, len) else {
         return None
     };
-    Some(SplitData { data, rest })
+    Some(SplitData { bytes: data, rest })
 }

@@ -36,7 +36,7 @@ pub fn split_map<'a>(
     let Some(split) = split_data(behind, 4 * pixels) else {
         return Ok(None)
     };
-    match read_numbers(alloc, split.data, pixels) {
+    match read_numbers(alloc, split.bytes, pixels) {
         Ok(numbers) => Ok(Some(SplitMap {
             numbers,
             rest: split.rest,

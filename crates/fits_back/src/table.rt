@@ -1,10 +1,9 @@
 //! A table of whole numbers at the front of bytes.
-ghost use Rattle.std.specs.Prelude.{◌≡◌, ◌*◌, ◌/◌, ◌<◌, ◌≤◌, ◌++◌, [], ◌∷◌, ℕ, ℤ, pos, List, Some, length, FitsSigned, IsTrue, IfOk, IfSome, IfNone, MatchOption};
+ghost use Rattle.std.specs.Prelude.{◌≡◌, ◌*◌, ◌<◌, ◌≤◌, ◌++◌, ℕ, ℤ, pos, List, Some, length, FitsSigned, IsTrue, IfOk, IfSome, IfNone, MatchOption};
 ghost use Rattle.std.specs.List.{All, concat, list_all};
 ghost use Rattle.std.specs.Int.{w64};
 ghost use Rattle.fits_card.specs.Written.{is_plain};
-ghost use Rattle.fits_write.specs.Blocks.{filled};
-ghost use Rattle.fits_write.specs.Columns.{IsTable, cell_size, row_size, column_cards, table_bytes};
+ghost use Rattle.fits_write.specs.Columns.{IsTable, row_size, column_cards};
 ghost use Rattle.fits_write.specs.Hdus.{header, named_cards, named_hdu};
 ghost use Rattle.fits_write.specs.Rows.{table_cells};
 ghost use Rattle.fits_back.specs.Announced.{announced};
@@ -143,7 +142,7 @@ fn split_rows<'a>(
     let Some(split) = split_data(bytes, size * rows) else {
         return Ok(None)
     };
-    match read_rows(alloc, columns, split.data, rows) {
+    match read_rows(alloc, columns, split.bytes, rows) {
         Ok(cells) => Ok(Some(SplitTable {
             cells,
             rest: split.rest,

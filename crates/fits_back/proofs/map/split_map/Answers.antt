@@ -15,7 +15,7 @@ returns-in_default-split_data-clause-none c =
 
 pub returns-in-Ok-clause-some : goal.returns-in-Ok-clause-some
 returns-in-Ok-clause-some c = (
-  map_here c.args.shape c.args.bytes.now c.in-Some.behind.now c.in-Some-split_data.split.«data».now c.in-Some-split_data.split.rest.now c.in-Ok.numbers.items
+  map_here c.args.shape c.args.bytes.now c.in-Some.behind.now c.in-Some-split_data.split.bytes.now c.in-Some-split_data.split.rest.now c.in-Ok.numbers.items
       (c.in-Some.ensures ∙ ap (λ cards. header cards ++ c.in-Some.behind.now) c.map_cards.ensures) c.in-Some-split_data.ensures.0 c.in-Ok.ensures.bytes,
   c.in-Ok.ensures.count ∙ c.pixels-pixels.ensures.product,
 )
