@@ -1,6 +1,6 @@
 """Refuses each growth of memory in turn, in small runs of the built program.
 
-usage: python3 tests/growths.py MAXDETECT [CRATES [MAXSURVEY]]
+usage: python3 tests/growths.py MAXDETECT [CRATES [MAXSURVEY [MAXWIDE]]]
 
 Given are the built programs, and the folder of crates with their built tests.
 
@@ -10,7 +10,7 @@ more often in two strips than in one, and more often in three than in two, since
 tests of crates hold with each growth refused: one counts the strips that come to the gate, none where memory was
 refused, and else each; one looks at a plane whose background is taken off, whole or not at all. Sessions of `maxsurvey`
 are tried in memory and over a file, of which a later run then lists what the session left: the tables before it, or
-after some of its commands. It wants gcc, and takes some seconds. Exit status 1 where a run does otherwise.
+after some of its commands. An image is made a tile by `maxwide`, and joined again. It wants gcc, and takes some seconds. Exit status 1 where a run does otherwise.
 """
 import os
 import pathlib
@@ -230,6 +230,18 @@ def survey_trials(refuser, maxdetect, maxsurvey):
     return wrong
 
 
+def tile_trials(refuser, maxwide):
+    """An image as the one tile of itself, and the same joined."""
+    tile = "tile --whole 5 1 --window 0 0 5 1 --core 0 0 5 1 detect --threshold 2 --contrast 300"
+    made = subprocess.run([maxwide, *tile.split()], input=HILLS, capture_output=True, check=True).stdout
+    wrong = []
+    for words, data, is_right in ((tile, HILLS, None), ("join", made, TWO_SOURCES)):
+        count, found = trials(refuser, maxwide, words, data, is_right)
+        wrong += found
+        print(f"maxwide {words}: {count} growths, {len(found)} end otherwise than they may")
+    return wrong
+
+
 def main():
     if not shutil.which("gcc"):
         print("skipped: tests/growths.py wants gcc")
@@ -250,6 +262,8 @@ def main():
             print(f"{crate}, {name}: {count} growths, {len(found)} end otherwise than they may")
         if len(sys.argv) > 3:
             wrong += survey_trials(refuser, program, pathlib.Path(sys.argv[3]).resolve())
+        if len(sys.argv) > 4:
+            wrong += tile_trials(refuser, pathlib.Path(sys.argv[4]).resolve())
     one, two, three = (counts[f"tree --strips {strips} --workers 1"] for strips in (1, 2, 3))
     if not one < two < three:
         wrong.append("more strips don't ask for memory more often")
