@@ -4,13 +4,14 @@ usage: python3 tests/growths.py MAXDETECT [CRATES [MAXSURVEY [MAXWIDE]]]
 
 Given are the built programs, and the folder of crates with their built tests.
 
-Each such run has status 5, has written nothing and says `out of memory`, or has status 0 and the whole output, which
-is compared with what it has to be: a growth may be one that the run can do without. A run of three rows asks for memory
+Each such run has status 5, has written nothing and says `out of memory`, or has status 0 and the whole output, which is
+compared with what it has to be: a growth may be one that the run can do without. A run of three rows asks for memory
 more often in two strips than in one, and more often in three than in two, since each strip is prepared by itself. Two
 tests of crates hold with each growth refused: one counts the strips that come to the gate, none where memory was
 refused, and else each; one looks at a plane whose background is taken off, whole or not at all. Sessions of `maxsurvey`
 are tried in memory and over a file, of which a later run then lists what the session left: the tables before it, or
-after some of its commands. An image is made a tile by `maxwide`, and joined again. It wants gcc, and takes some seconds. Exit status 1 where a run does otherwise.
+after some of its commands. An image is made a tile by `maxwide`, and joined again. It wants gcc, and takes some
+seconds. Exit status 1 where a run does otherwise.
 """
 import os
 import pathlib

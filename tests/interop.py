@@ -1,12 +1,13 @@
-"""Reads what `maxdetect filter`, `detect` and `measure` write with other FITS readers, and compares each pixel and
-cell.
+"""Reads what `maxdetect filter`, `detect` and `measure` and `maxwide tile` write with other FITS readers, and compares
+each pixel and cell; what `maxwide join` writes of tiles is compared with the whole.
 
-usage: /usr/bin/python3 tests/interop.py MAXDETECT      (MAXDETECT is the built program)
+usage: /usr/bin/python3 tests/interop.py MAXDETECT [MAXWIDE]      (the built programs)
 
 It wants astropy; `fitsverify` and scikit-image are used where they are there. In Debian these are the packages
 python3-astropy, fitsverify and python3-skimage. A reader's warning is a failure. Without astropy it says so and ends
 well.
 """
+import io
 import pathlib
 import shutil
 import subprocess
@@ -165,6 +166,38 @@ def measurement(program, folder, bands):
         return len(measured)
 
 
+def cut(stars, left, top, width, height):
+    """The file of a window of a field."""
+    with fits.open(io.BytesIO(stars)) as file:
+        window = fits.PrimaryHDU(file[0].data[top : top + height, left : left + width])
+        bytes_ = io.BytesIO()
+        window.writeto(bytes_)
+    return bytes_.getvalue()
+
+
+def tiles(maxwide, folder, stars):
+    """Four windows of a field with a margin each, as tiles: their boxes, map and rows, and the whole that they give."""
+    words = ["detect", "--threshold", "34", "--min-area", "5", "--mesh", "64", "--connect", "8"]
+    half, margin, files = SIDE // 2, 192, []
+    for left, top in ((half, half), (0, half), (half, 0), (0, 0)):
+        x, y = max(left - margin, 0), max(top - margin, 0)
+        width, height = min(left + half + margin, SIDE) - x, min(top + half + margin, SIDE) - y
+        place = [x, y, width, height, "--core", left, top, half, half]
+        place = ["--whole", SIDE, SIDE, "--window", *place]
+        files.append(run(maxwide, ["tile", *map(str, place), *words], cut(stars, x, y, width, height)))
+        with fits.open(verified(folder, "tile.fits", files[-1])) as file:
+            boxes = [list(row) for row in file["TILE"].data]
+            if boxes[:2] != [[1, SIDE, 1, SIDE], [x + 1, x + width, y + 1, y + height]] or len(boxes) != 3:
+                fail(f"a tile has the boxes {boxes}")
+            if (
+                file["SEGMENT"].data.shape != (height, width)
+                or not numpy.isin(file["SOURCES"].data["NUMBER"], file["SEGMENT"].data).all()
+            ):
+                fail("a tile's rows have other numbers than its map")
+    if run(maxwide, ["join"], b"".join(files)) != run(maxwide, words, stars):
+        fail("tiles that are joined aren't the whole")
+
+
 def main():
     program = pathlib.Path(sys.argv[1]).resolve()
     field = [sys.executable, TOP / "examples" / "star_field.py"]
@@ -178,6 +211,8 @@ def main():
         star_filter(program, folder, stars)
         count = detection(program, folder, stars)
         measures = measurement(program, folder, bands)
+        if len(sys.argv) > 2:
+            tiles(pathlib.Path(sys.argv[2]).resolve(), folder, stars)
     print(
         f"interop: all outputs are read without a warning; {count} sources agree with the map, "
         f"{measures} with the second band"
