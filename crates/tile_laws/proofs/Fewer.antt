@@ -62,7 +62,7 @@ module _ (r : Raster) (connect : Connect) where
       (defined_from_at_least r k (p + 1) b) (beside connect r.shape.width p row))))
 
   -- a pixel that could stand for the parent of a whole component lies below the threshold
-  low_candidate : (h : ℤ) (m p : ℕ) → IsPlane r → IsNode r connect m → IsWholeAt h (tree_of r connect).rows m
+  pub low_candidate : (h : ℤ) (m p : ℕ) → IsPlane r → IsNode r connect m → IsWholeAt h (tree_of r connect).rows m
       → IsTrue (is_candidate r connect (top_of r connect m) p) → int_le h (level r p) ≡ true → ⊥
   low_candidate h m p plane node is_whole candidate high =
       go (parent_of r connect (top_of r connect m)) (parent-of_node r connect m node) (parent-case r connect (top_of r connect m))
@@ -90,10 +90,10 @@ module _ (r : Raster) (connect : Connect) where
               int_lt_le (level r s) h (int_lt-from (level r s) h (subst (λ (z : ℤ). z <ℤ h) level_is low))
               (int_le_trans h (level r p) (level r s) high (most p candidate))
 
-  abbrev top : ℕ → ℕ
+  abbrev pub top : ℕ → ℕ
   top n = top_of r connect n
 
-  high_top : (h : ℤ) (n : ℕ) → IsNode r connect n → IsWholeAt h (tree_of r connect).rows n → int_le h (level r (top n)) ≡ true
+  pub high_top : (h : ℤ) (n : ℕ) → IsNode r connect n → IsWholeAt h (tree_of r connect).rows n → int_le h (level r (top n)) ≡ true
   high_top h n node is_whole = int_le-from h (level r (top n)) (subst (λ (z : ℤ). h ≤ℤ z) (level-of_node r connect n node) is_whole.high)
 
   -- whole components whose representatives stand side by side are the same

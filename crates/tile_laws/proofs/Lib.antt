@@ -14,4 +14,5 @@ mod NodeBoxes
 mod Testing
 mod Opened
 mod Fewer
+mod Local
 pub mod Exported
