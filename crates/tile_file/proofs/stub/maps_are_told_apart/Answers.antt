@@ -1,0 +1,4 @@
+use Rattle.tile_file.proofs.stub.maps_are_told_apart.Goals as goal
+
+pub returns : goal.returns
+returns c = ?

@@ -1,0 +1,4 @@
+use Rattle.tile_file.proofs.stub.split_table.Goals as goal
+
+pub returns-clause-none : goal.returns-clause-none
+returns-clause-none c = ?

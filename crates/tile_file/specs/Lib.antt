@@ -1,0 +1,4 @@
+pub mod TileFiles
+pub mod Reading
+pub mod Laws
+pub mod StubLaws
