@@ -3,6 +3,8 @@ use Rattle.std.proofs.Common.{◌≡◌, ◌∙◌, ℕ, zero, suc, ◌+◌, ◌
 use Rattle.std.proofs.Common.{refl, sym, ap, ap₂, subst, subst₂, arith, ℤ, pos, negsuc, FitsSigned, w32, w64, All, length-append, take, drop, take-append-drop}
 use Rattle.std.specs.List.{AllByRecursion, range_with_len}
 use Rattle.std.proofs.lemmas.Int.{ints}
+use Rattle.std.proofs.lemmas.Int.{to_z-of_z}
+use mir.Val.{of_z, to_z}
 use Rattle.std.proofs.lemmas.List.{get_or-append_right, get_or_append_left}
 use Rattle.std.proofs.lemmas.List.Concat.{flat_map-append}
 use Rattle.std.proofs.lemmas.List.Elements.{All-from_recursion, recursion_from_All, All-append}
@@ -55,6 +57,13 @@ listed xs many =
     let all : map (λ k. get_or xs k (pos 0)) (range_with_len 0 (length xs)) ≡ xs =
     read_from (λ k. get_or xs k (pos 0)) 0 xs (λ j h. let at : 0 + j ≡ j = omega arith in ap (λ k. get_or xs k (pos 0)) at) in
     subst (λ n. map (λ k. get_or xs k (pos 0)) (range_with_len 0 n) ≡ xs) many all
+
+-- a number that fits, as it is moved
+pub same_moved : {z value : ℤ} → FitsSigned w64 z → z ≡ value → to_z w64 (of_z w64 z) ≡ value
+same_moved {z} fits is = to_z-of_z w64 z fits ∙ is
+
+pub moved_fits : {z : ℤ} → FitsSigned w64 z → FitsSigned w64 (to_z w64 (of_z w64 z))
+moved_fits {z} fits = subst (FitsSigned w64) (sym (to_z-of_z w64 z fits)) fits
 
 -- the cells of a row are these, if each is the one at its place
 pub same_values : (xs : List ℤ) → length xs ≡ 17 → {a0 a1 a2 a3 a4 a5 a6 a7 a8 a9 a10 a11 a12 a13 a14 a15 a16 : ℤ} → a0 ≡ get_or xs 0 (pos 0) → a1 ≡ get_or xs 1 (pos 0) → a2 ≡ get_or xs 2 (pos 0) → a3 ≡ get_or xs 3 (pos 0) → a4 ≡ get_or xs 4 (pos 0) → a5 ≡ get_or xs 5 (pos 0) → a6 ≡ get_or xs 6 (pos 0) → a7 ≡ get_or xs 7 (pos 0) → a8 ≡ get_or xs 8 (pos 0) → a9 ≡ get_or xs 9 (pos 0) → a10 ≡ get_or xs 10 (pos 0) → a11 ≡ get_or xs 11 (pos 0) → a12 ≡ get_or xs 12 (pos 0) → a13 ≡ get_or xs 13 (pos 0) → a14 ≡ get_or xs 14 (pos 0) → a15 ≡ get_or xs 15 (pos 0) → a16 ≡ get_or xs 16 (pos 0) → a0 ∷ a1 ∷ a2 ∷ a3 ∷ a4 ∷ a5 ∷ a6 ∷ a7 ∷ a8 ∷ a9 ∷ a10 ∷ a11 ∷ a12 ∷ a13 ∷ a14 ∷ a15 ∷ a16 ∷ [] ≡ xs
