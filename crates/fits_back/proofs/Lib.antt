@@ -1,0 +1,7 @@
+mod Stripping
+mod Headers
+mod Bytes
+mod Numbers
+mod Cells
+mod Announcing
+mod Apart

@@ -1,0 +1,4 @@
+pub mod Fronts
+pub mod Announced
+pub mod TableRows
+pub mod Laws
