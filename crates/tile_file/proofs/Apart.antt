@@ -19,7 +19,7 @@ use Rattle.tile_join.specs.declared.tiles.Frame.{Frame}
 use Rattle.tile_join.specs.declared.tiles.TileCatalogue.{TileCatalogue}
 use Rattle.tile_file.specs.TileFiles.{box_columns, box_cells, image_extent, frame_extent, tile_extents, boxes_hdu, rows_hdu, tile_hdus, tile_bytes}
 use Rattle.tile_file.specs.TileFiles.{bytes_of_tiles, AreTileBoxes, AreTileNumbers, AreTileRows, IsTileFile}
-use Rattle.tile_file.specs.StubLaws.{TablesAreToldApart, MapsAreToldApart}
+use Rattle.fits_back.specs.Laws.{TablesAreToldApart, MapsAreToldApart}
 use Rattle.tile_file.specs.Laws.{AreSameTile, AreSameTiles, TilesAreToldApart, TileFilesAreToldApart}
 use Rattle.tile_file.proofs.Extents.{plain_boxes, same_boxes, same_image, same_frame, extents_table, extents_whole, narrow_whole}
 use Rattle.tile_file.proofs.CatalogueCells.{same_rows, rows_table, rows_whole, rows_from_table, seventeen}

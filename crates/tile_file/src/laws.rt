@@ -2,7 +2,7 @@
 
 ghost use Rattle.tile_file.specs.Laws.{TilesAreToldApart, TileFilesAreToldApart};
 
-use crate::stub::{maps_are_told_apart, tables_are_told_apart};
+use fits_back::laws::{maps_are_told_apart, tables_are_told_apart};
 
 /// Tiles with the same bytes tell the same, whatever stands behind them, and so do all tiles of files with the same bytes.
 pub fn tiles_are_told_apart()

@@ -9,7 +9,6 @@ pub mod laws;
 mod parts;
 mod reading;
 mod rows;
-mod stub;
 #[cfg(test)]
 mod tests;
 mod writing;

@@ -12,9 +12,10 @@ ghost use Rattle.tile_file.specs.TileFiles.{boxes_hdu, rows_hdu, AreTileBoxes, A
 use crate::boxes::box_columns;
 use crate::frames::{TileBoxes, tile_boxes};
 use crate::rows::rows_of;
-use crate::stub::{maps_are_told_apart, split_map, split_table, tables_are_told_apart};
 use comp_tree::Shape;
 use costs::OutOfMemory;
+use fits_back::laws::{maps_are_told_apart, tables_are_told_apart};
+use fits_back::{split_map, split_table};
 use fits_write::catalogue_columns;
 use source_pick::CatRow;
 use std::alloc::Global;

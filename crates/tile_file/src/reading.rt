@@ -7,9 +7,10 @@ ghost use Rattle.tile_file.specs.TileFiles.{tile_bytes, bytes_of_tiles, IsTileFi
 
 use crate::frames::TileBoxes;
 use crate::parts::{split_boxes, split_numbers, split_rows};
-use crate::stub::{maps_are_told_apart, split_primary, tables_are_told_apart};
 use crate::laws::tiles_are_told_apart;
 use costs::OutOfMemory;
+use fits_back::laws::{maps_are_told_apart, tables_are_told_apart};
+use fits_back::split_primary;
 use std::alloc::Global;
 use tile_join::TileCatalogue;
 

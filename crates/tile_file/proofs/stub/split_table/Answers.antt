@@ -1,4 +1,0 @@
-use Rattle.tile_file.proofs.stub.split_table.Goals as goal
-
-pub returns-clause-none : goal.returns-clause-none
-returns-clause-none c = ?
