@@ -1,0 +1,5 @@
+pub mod InTurn
+pub mod Extents
+pub mod CatalogueCells
+pub mod Puts
+pub mod Apart

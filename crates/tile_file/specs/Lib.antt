@@ -1,0 +1,3 @@
+pub mod TileFiles
+pub mod Reading
+pub mod Laws
