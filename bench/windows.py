@@ -1,4 +1,4 @@
-"""Times `maxwide detect` on a large image, and `maxwide tile` over windows of it with `maxwide join` behind them, in one
+"""Times `maxwide detect` on a large image, and beside it `maxwide tile` over its windows with `maxwide join`, in one
 run; the bytes have to be the same. Prints a table in Markdown.
 
 usage: /usr/bin/python3 bench/windows.py MAXWIDE [--width W] [--height H] [--cuts N]
