@@ -10,12 +10,13 @@ ghost use Rattle.run_relation.specs.RunEnds.{IsMadeOf, EndBytes, EndCause};
 ghost use Rattle.run_relation.specs.Headline.{Tells, use_of_input, use_of_output, IsUnused, IsRunOf};
 ghost use Rattle.tile_make.specs.Placed.{is_tile_place};
 ghost use Rattle.tile_file.specs.TileFiles.{CanBePut, file_bytes};
-ghost use Rattle.tile_top.specs.TileAnswers.{tile_output, asked_for_tile, asked_of_tile, IsTileOrder};
+ghost use Rattle.tile_top.specs.TileAnswers.{tile_output, has_window_shape, asked_for_tile, asked_of_tile, IsTileOrder};
 
-use comp_tree::Plane;
+use comp_tree::{Plane, Shape};
 use costs::OutOfMemory;
 use dev_io::{Sink, Source};
 use fits_write::WriteFault;
+use mesh_background::laws::residual_is_a_plane;
 use pixel_plane::{Fault, Limits, Stop, read_image};
 use run_relation::{End, tell};
 use std::alloc::Global;
@@ -24,6 +25,13 @@ use strip_crew::Gate;
 use tile_file::{TileFile, file_of, put_file};
 use tile_make::{TileStop, make_tile};
 use tile_words::{TileOrder, read_tile_order};
+
+// Whether an image has the shape of the order's window.
+fn has_window_shape(order: &TileOrder, shape: Shape) -> bool
+    ensures { result ≡ has_window_shape order.now shape }
+{
+    shape.width == order.window.width && shape.height == order.window.height
+}
 
 // What the order makes of the image of its window. All memory for it is taken here.
 fn make_file<R: Threads + Sync, G: Gate>(
@@ -34,11 +42,14 @@ fn make_file<R: Threads + Sync, G: Gate>(
     gate: &G,
 ) -> Result<TileFile, OutOfMemory>
     requires order { IsTileOrder order.now }
-    requires shape { image.shape ≡ order.now.window }
+    requires shape { has_window_shape order.now image.shape ≡ true }
     requires storable { HasValuesInHalfRange image.values }
     ensures writable { IfOk result CanBePut }
     ensures bytes { IfOk result (λ file. file_bytes file ≡ tile_output order.now image) }
 {
+    // for their clauses alone: an image is a plane, and so is its residual
+    residual_is_a_plane();
+    let _shape = image.shape();
     match make_tile(
         rt,
         alloc,
@@ -74,7 +85,7 @@ fn read_and_make<R: Threads + Sync, S: Source, G: Gate>(
         Ok(image) => image,
         Err(stop) => return Err(stop),
     };
-    if image.shape() != order.window {
+    if !has_window_shape(order, image.shape()) {
         return Err(Stop::Refused(Fault::ShapeDiffers));
     }
     match make_file(rt, alloc, image, order, gate) {

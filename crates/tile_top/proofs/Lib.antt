@@ -1,0 +1,2 @@
+mod WritableRows
+mod TileReads
