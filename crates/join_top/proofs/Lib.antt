@@ -1,3 +1,5 @@
 mod Collecting
 mod Storing
 mod Images
+mod Joined
+mod Ending

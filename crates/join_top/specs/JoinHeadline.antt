@@ -1,5 +1,5 @@
 -- Model: the headline of `join`: what a run does, and that tiles of one image give what detection gives in the whole image.
-use Rattle.std.specs.Prelude.{◌≡◌, ℕ, List, length, Result, Ok, Err, IsTrue}
+use Rattle.std.specs.Prelude.{◌≡◌, ℕ, List, length, Some, Result, Ok, Err, IsTrue}
 use Rattle.std.specs.Io.KnownBytes.{Appends, Keeps}
 use Rattle.dev_io.specs.Causes.{Rose}
 use Rattle.dev_io.specs.Streams.{AppendsPrefix}

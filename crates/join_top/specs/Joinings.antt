@@ -1,13 +1,13 @@
 -- Model: what `join` makes of the files of tiles.
-use Rattle.std.specs.Prelude.{◌≡◌, ℕ, ◌<◌, List, length, map, Some, slice_get}
-use Rattle.std.specs.List.{concat, flat_map, All}
+use Rattle.std.specs.Prelude.{◌≡◌, ℕ, List, Some, slice_get}
+use Rattle.std.specs.List.{flat_map, All}
 use Rattle.comp_tree.specs.declared.shape.Shape.{Shape}
 use Rattle.source_pick.specs.Catalogue.{cells_of}
 use Rattle.tree_products.specs.Catalogues.{hdus}
 use Rattle.tile_join.specs.declared.tiles.TileCatalogue.{TileCatalogue}
 use Rattle.tile_join.specs.Tiles.{AreJoinable, HasJoinFault}
 use Rattle.tile_join.specs.Joins.{joined_rows, joined_map}
-use Rattle.tile_file.specs.TileFiles.{IsTileFile, tile_bytes}
+use Rattle.tile_file.specs.TileFiles.{bytes_of_tiles, IsTileFile}
 use Rattle.join_top.specs.declared.ends.JoinRefusal.{JoinRefusal}
 use Rattle.join_top.specs.declared.ends.JoinRefusal.TheVariants.{NotTiles, Unjoinable}
 
@@ -17,7 +17,7 @@ pub record AreTilesIn (bytes : List ℕ) (whole : Shape) (tiles : List TileCatal
   pub at : slice_get tiles 0 ≡ Some first
   pub whole_is : whole ≡ first.whole
   pub files : All IsTileFile tiles
-  pub bytes_are : bytes ≡ concat (map tile_bytes tiles)
+  pub bytes_are : bytes ≡ bytes_of_tiles tiles
 
 -- what is written of tiles that can be joined: what `detect` writes of a map and a catalogue
 unfoldable pub joined_hdus : Shape → List TileCatalogue → List ℕ

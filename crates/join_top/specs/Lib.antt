@@ -2,4 +2,4 @@ pub mod AllBytes
 pub mod JoinNotes
 pub mod Joinings
 pub mod JoinHeadline
-pub mod Stops
+pub mod Making

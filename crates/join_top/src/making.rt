@@ -1,28 +1,25 @@
 //! What the bytes of tiles give together.
-ghost use Rattle.std.specs.Prelude.{◌≡◌, ◌++◌, ℕ, List, IfOk, IfErr, OnOk};
-ghost use Rattle.std.specs.List.{flat_map};
+ghost use Rattle.std.specs.Prelude.{◌≡◌, ◌<◌, List, IfOk, IfErr, length};
+ghost use Rattle.std.specs.List.{All};
 ghost use Rattle.comp_tree.specs.Raster.{Raster, IsPlane};
-ghost use Rattle.fits_write.specs.Columns.{IsTable};
-ghost use Rattle.fits_write.specs.CatalogueColumns.{catalogue_columns};
-ghost use Rattle.source_pick.specs.Catalogue.{cells_of};
 ghost use Rattle.tree_products.specs.Catalogues.{hdus, IsDetection, detected_hdus};
 ghost use Rattle.tile_laws.specs.Pieces.{DetectionChoice, searched};
 ghost use Rattle.tile_join.specs.declared.tiles.TileCatalogue.{TileCatalogue as Tile};
 ghost use Rattle.tile_join.specs.Made.{AreTilesMade};
+ghost use Rattle.tile_file.specs.TileFiles.{IsTileFile};
 ghost use Rattle.join_top.specs.Joinings.{AreTilesIn, IsJoinedOutput};
-ghost use Rattle.join_top.specs.Stops.{IsMakeStopOf};
+ghost use Rattle.join_top.specs.Making.{IsWholeOf, IsJoinedDetection, IsStopOfTiles, IsMakeStopOf};
 
 use crate::ends::JoinRefusal;
-use costs::OutOfMemory;
-use fits_write::CELLS_IN_ROW;
-use source_pick::{CatRow, cells};
+use comp_tree::Shape;
 use std::alloc::Global;
-use tile_file::split_tiles;
-use tile_join::{JoinStop, Joined, join};
+use tile_file::laws::tiles_are_told_apart;
+use tile_file::{row_cells, split_tiles};
+use tile_join::{JoinStop, TileCatalogue, join};
 use tree_products::Detection;
 
 // Why nothing was made.
-#[derive(Clone, Copy)]
+#[derive(Clone, Copy, PartialEq, Eq, Debug)]
 pub(crate) enum MakeStop {
     Refused(JoinRefusal),
     NoMemory,
@@ -37,30 +34,41 @@ pub(crate) fn make_joined(alloc: Global, bytes: &[u8]) -> Result<Detection, Make
     ensures writable { IfOk result (λ found. IsDetection found.shape found.map.items found.cells.items) }
     ensures refused { IfErr result (IsMakeStopOf bytes.now) }
 {
+    tiles_are_told_apart();
     let tiles = match split_tiles(alloc, bytes) {
         Ok(Some(tiles)) => tiles,
         Ok(None) => return Err(MakeStop::Refused(JoinRefusal::NotTiles)),
         Err(_) => return Err(MakeStop::NoMemory),
     };
-    let Some(first) = tiles.first() else {
+    if tiles.is_empty() {
         return Err(MakeStop::Refused(JoinRefusal::NotTiles));
-    };
-    let whole = first.whole;
-    match join(alloc, whole, &tiles) {
-        Ok(joined) => listed(alloc, whole, joined),
-        Err(JoinStop::Refused(fault)) => { Err(MakeStop::Refused(JoinRefusal::Unjoinable(fault))) }
-        Err(JoinStop::NoMemory) => Err(MakeStop::NoMemory),
     }
+    join_tiles(alloc, whole_of(&tiles), &tiles)
 }
 
-// The map and the cells of the catalogue of an image whose tiles were joined.
-fn listed(alloc: Global, whole: Shape, joined: Joined) -> Result<Detection, MakeStop>
-    ensures shape { IfOk result (λ found. found.shape ≡ whole) }
-    ensures map { IfOk result (λ found. found.map.items ≡ joined.map.items) }
-    ensures cells { IfOk result (λ found. found.cells.items ≡ flat_map cells_of joined.rows.items) }
-    ensures memory { IfErr result (λ stop. stop ≡ MakeStop.NoMemory) }
+// The shape of the image that the first tile says.
+fn whole_of(tiles: &[TileCatalogue]) -> Shape
+    requires some { 0 < length tiles.now }
+    ensures { IsWholeOf tiles.now result }
 {
-    match all_cells(alloc, &joined.rows) {
+    tiles[0].whole
+}
+
+// The map and the catalogue of the image of these tiles.
+fn join_tiles(alloc: Global, whole: Shape, tiles: &[TileCatalogue]) -> Result<Detection, MakeStop>
+    requires files { All IsTileFile tiles.now }
+    ensures shape { IfOk result (λ found. found.shape ≡ whole) }
+    ensures joined { IfOk result (λ found. IsJoinedDetection whole tiles.now found.map.items found.cells.items) }
+    ensures stop { IfErr result (IsStopOfTiles whole tiles.now) }
+{
+    let joined = match join(alloc, whole, tiles) {
+        Ok(joined) => joined,
+        Err(JoinStop::Refused(fault)) => {
+            return Err(MakeStop::Refused(JoinRefusal::Unjoinable(fault)));
+        }
+        Err(JoinStop::NoMemory) => return Err(MakeStop::NoMemory),
+    };
+    match row_cells(alloc, &joined.rows) {
         Ok(cells) => Ok(Detection {
             shape: whole,
             map: joined.map,
@@ -68,15 +76,4 @@ fn listed(alloc: Global, whole: Shape, joined: Joined) -> Result<Detection, Make
         }),
         Err(_) => Err(MakeStop::NoMemory),
     }
-}
-
-// The cells of these rows, row by row.
-fn all_cells(alloc: Global, rows: &[CatRow]) -> Result<Vec<i64>, OutOfMemory>
-    ensures { IfOk result (λ table. table.items ≡ flat_map cells_of rows.now) }
-{
-    let mut table = Vec::new(alloc);
-    for row in rows {
-        table.extend_from_slice(&cells(row))?;
-    }
-    Ok(table)
 }

@@ -1,9 +1,10 @@
 //! The run as a whole.
-ghost use Rattle.std.specs.Prelude.{◌≡◌, ℕ, List, Ok, IfOk, IfErr, IsErrOf, IsTrue, OnOk};
+ghost use Rattle.std.specs.Prelude.{◌≡◌, ℕ, List, Some, Ok, IsTrue, OnOk};
+ghost use Rattle.dev_io.specs.Causes.{HasCause};
+ghost use Rattle.dev_io.specs.Streams.{PutAppends};
 ghost use Rattle.command_line.specs.Lines.{texts};
-ghost use Rattle.comp_tree.specs.Raster.{Raster, IsPlane};
 ghost use Rattle.run_relation.specs.Headline.{use_of_input, use_of_output};
-ghost use Rattle.tree_products.specs.Catalogues.{hdus, IsDetection, detected_hdus};
+ghost use Rattle.tree_products.specs.Catalogues.{hdus, IsDetection};
 ghost use Rattle.tile_words.specs.TileWords.{join_order_of};
 ghost use Rattle.join_top.specs.JoinHeadline.{JoinEndsBy, JoinEndCause, IsJoinOf};
 
@@ -14,7 +15,24 @@ use crate::reading::{ReadStop, read_all};
 use dev_io::{Sink, Source};
 use std::alloc::Global;
 use tile_words::read_join;
-use tree_products::{Product, write};
+use tree_products::{Detection, WriteFault, put_detection};
+
+// Writes a primary HDU, the map and the catalogue, and hands all of it on.
+fn write_joined<O: Sink>(output: &mut O, found: &Detection) -> Result<(), WriteFault>
+    requires { IsDetection found.now.shape found.now.map.items found.now.cells.items }
+    ensures bytes { PutAppends (O.written output.old) (O.written output.new) result
+        (hdus found.now.shape found.now.map.items found.now.cells.items) }
+    ensures settled { OnOk result (IsTrue (O.settled output.new)) }
+    ensures cause { HasCause (O.faults output.old) (O.faults output.new) result }
+{
+    if let Err(fault) = put_detection(output, found) {
+        return Err(fault);
+    }
+    match output.done() {
+        Ok(()) => Ok(()),
+        Err(_) => Err(WriteFault),
+    }
+}
 
 // Reads the tiles, joins them, and writes what they give.
 fn carry_out<S: Source, O: Sink>(alloc: Global, input: &mut S, output: &mut O) -> JoinEnd
@@ -35,7 +53,7 @@ fn carry_out<S: Source, O: Sink>(alloc: Global, input: &mut S, output: &mut O) -
         Err(MakeStop::Refused(refusal)) => return JoinEnd::Refused(refusal),
         Err(MakeStop::NoMemory) => return JoinEnd::NoMemory,
     };
-    match write(output, &Product::Sources(found)) {
+    match write_joined(output, &found) {
         Ok(()) => JoinEnd::Done,
         Err(_) => JoinEnd::WriteFault,
     }

@@ -14,4 +14,5 @@ mod tests;
 mod writing;
 
 pub use reading::{TileAhead, split_tile, split_tiles};
+pub use rows::row_cells;
 pub use writing::{TileFile, file_of, put_file};

@@ -12,7 +12,7 @@ use source_pick::{CatRow, cells};
 use std::alloc::Global;
 
 /// The cells of the rows, one behind the other.
-pub(crate) fn row_cells(alloc: Global, rows: &[CatRow]) -> Result<Vec<i64>, OutOfMemory>
+pub fn row_cells(alloc: Global, rows: &[CatRow]) -> Result<Vec<i64>, OutOfMemory>
     ensures { IfOk result (λ table. table.items ≡ flat_map cells_of rows.now) }
 {
     let mut table = Vec::new(alloc);

@@ -1,2 +1,3 @@
 mod WritableRows
 mod TileReads
+mod Fitting

@@ -1,5 +1,5 @@
 -- The rows of a tile can be written: each number of 64 bits is one.
-use Rattle.std.proofs.Common.{◌≡◌, ◌∙◌, ℕ, zero, suc, ◌<◌, ◌≤◌, List, [], ◌∷◌, length, map, refl, sym, ap, subst, arith, inl, inr, ℤ, pos, FitsSigned, w64}
+use Rattle.std.proofs.Common.{◌≡◌, ◌∙◌, ℕ, zero, suc, ◌+◌, ◌<◌, ◌≤◌, List, [], ◌∷◌, length, map, refl, sym, ap, subst, arith, inl, inr, ℤ, pos, FitsSigned, w64}
 use Rattle.std.specs.Prelude.{negsuc, filter}
 use Rattle.std.specs.List.{All, AllByRecursion, enumerate_from}
 use Rattle.std.proofs.lemmas.Int.{ints}

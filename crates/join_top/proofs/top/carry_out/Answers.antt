@@ -1,0 +1,45 @@
+use Rattle.std.proofs.Common.{◌≡◌, ◌∙◌, ℕ, List, length, sym, subst}
+use Rattle.std.proofs.lemmas.Option.{same_Some}
+use Rattle.dev_io.specs.Streams.{Takes}
+use Rattle.tree_products.specs.Catalogues.{hdus}
+use Rattle.run_relation.specs.Headline.{Took}
+use Rattle.join_top.specs.declared.making.MakeStop.{MakeStop}
+use Rattle.join_top.specs.AllBytes.{IsAllRead}
+use Rattle.join_top.specs.Joinings.{IsJoinedOutput, IsRefusalOf}
+use Rattle.join_top.specs.Making.{IsMakeStopOf}
+use Rattle.join_top.proofs.Ending.{all_taken, image_of_all}
+use Rattle.join_top.proofs.top.carry_out.Goals as goal
+
+pub returns-in-Err-Refused-clause-told : goal.returns-in-Err-Refused-clause-told
+returns-in-Err-Refused-clause-told g c = λ bytes told.
+    let read = c.in-Ok.ensures.told bytes told in
+    let refused : IsRefusalOf c.deref.result.now c.in-Err-Refused.refusal =
+    subst (λ (stop : MakeStop). IsMakeStopOf c.deref.result.now stop) c.in-Err-Refused.field-0-is c.in-Err-Refused.ensures.refused in (
+      subst (λ (b : List ℕ). IsRefusalOf b c.in-Err-Refused.refusal) (c.deref.ensures.value ∙ read.all_are) refused,
+      all_taken bytes _ _ c.in-Ok.bytes.items told read,
+    )
+
+pub returns-in-Ok-write_joined-clause-told : goal.returns-in-Ok-write_joined-clause-told
+returns-in-Ok-write_joined-clause-told g c = λ bytes told.
+    let read = c.in-Ok.ensures.told bytes told in
+    let found = c.in-Ok-make_joined.found in
+    record {
+      output = hdus found.shape found.map.items found.cells.items;
+      is_output = subst (λ (b : List ℕ). IsJoinedOutput b (hdus found.shape found.map.items found.cells.items)) (c.deref.ensures.value ∙ read.all_are)
+          c.in-Ok-make_joined.ensures.output;
+      written = c.in-Ok-write_joined.ensures.bytes;
+      taken = all_taken bytes _ _ c.in-Ok.bytes.items told read;
+      image = image_of_all c.deref.result.now bytes _ (c.deref.ensures.value ∙ read.all_are) c.in-Ok-make_joined.ensures.image;
+    }
+
+pub returns-in-Err-write_joined-clause-told : goal.returns-in-Err-write_joined-clause-told
+returns-in-Err-write_joined-clause-told g c = λ bytes told.
+    let read = c.in-Ok.ensures.told bytes told in
+    let found = c.in-Ok-make_joined.found in
+    record {
+      output = hdus found.shape found.map.items found.cells.items;
+      is_output = subst (λ (b : List ℕ). IsJoinedOutput b (hdus found.shape found.map.items found.cells.items)) (c.deref.ensures.value ∙ read.all_are)
+          c.in-Ok-make_joined.ensures.output;
+      front = c.in-Err-write_joined.ensures.bytes;
+      taken = all_taken bytes _ _ c.in-Ok.bytes.items told read;
+    }

@@ -1,0 +1,31 @@
+use Rattle.std.proofs.Common.{refl, subst}
+use Rattle.pixel_plane.specs.declared.image.Stop.{Stop}
+use Rattle.run_relation.specs.RunEnds.{HasStopped}
+use Rattle.run_relation.proofs.Exported.{refused_so}
+use Rattle.tile_top.specs.TileAnswers.{asked_for_tile}
+use Rattle.tile_top.proofs.tiling.carry_out.Goals as goal
+
+pub returns-in-Err-Refused-clause-bytes : goal.returns-in-Err-Refused-clause-bytes
+returns-in-Err-Refused-clause-bytes g c = λ x tells.
+    let asked = asked_for_tile c.args.limits.now c.args.order.now in
+    let left = g.S.Source.left c.args.input.now in
+    let left' = g.S.Source.left c.read_and_make.new.input in
+    refused_so (asked.answer x) (asked.memory_at x) _ _ c.in-Err-Refused.fault refl
+    (subst (λ (stop : Stop). HasStopped (asked.answer x) (asked.memory_at x) left left' stop) c.in-Err-Refused.field-0-is
+    (c.in-Err-Refused.ensures.told x tells))
+
+pub returns-in-Err-ReadFault-clause-bytes : goal.returns-in-Err-ReadFault-clause-bytes
+returns-in-Err-ReadFault-clause-bytes g c = λ x tells.
+    let asked = asked_for_tile c.args.limits.now c.args.order.now in
+    let left = g.S.Source.left c.args.input.now in
+    let left' = g.S.Source.left c.read_and_make.new.input in
+    subst (λ (stop : Stop). HasStopped (asked.answer x) (asked.memory_at x) left left' stop) c.in-Err-ReadFault.field-0-is
+    (c.in-Err-ReadFault.ensures.told x tells)
+
+pub returns-in-Err-NoMemory-clause-bytes : goal.returns-in-Err-NoMemory-clause-bytes
+returns-in-Err-NoMemory-clause-bytes g c = λ x tells.
+    let asked = asked_for_tile c.args.limits.now c.args.order.now in
+    let left = g.S.Source.left c.args.input.now in
+    let left' = g.S.Source.left c.read_and_make.new.input in
+    subst (λ (stop : Stop). HasStopped (asked.answer x) (asked.memory_at x) left left' stop) c.in-Err-NoMemory.field-0-is
+    (c.in-Err-NoMemory.ensures.told x tells)
