@@ -32,14 +32,14 @@ returns-in-Ok-write_joined-clause-told g c = λ bytes told.
       image = image_of_all c.deref.result.now bytes _ (c.deref.ensures.value ∙ read.all_are) c.in-Ok-make_joined.ensures.image;
     }
 
-pub returns-in-Err-write_joined-clause-told : goal.returns-in-Err-write_joined-clause-told
-returns-in-Err-write_joined-clause-told g c = λ bytes told.
+pub returns-clause-told : goal.returns-clause-told
+returns-clause-told g c = λ bytes told.
     let read = c.in-Ok.ensures.told bytes told in
     let found = c.in-Ok-make_joined.found in
     record {
       output = hdus found.shape found.map.items found.cells.items;
       is_output = subst (λ (b : List ℕ). IsJoinedOutput b (hdus found.shape found.map.items found.cells.items)) (c.deref.ensures.value ∙ read.all_are)
           c.in-Ok-make_joined.ensures.output;
-      front = c.in-Err-write_joined.ensures.bytes;
+      front = c.in-Err.ensures.bytes;
       taken = all_taken bytes _ _ c.in-Ok.bytes.items told read;
     }
