@@ -58,6 +58,7 @@ left_open threshold place (Some sure) rows sums =
     if holds_box (extent_box sure) (core_box place)
     then open_extents threshold rows sums place.left place.top place.whole (core_box place) (extent_box sure) else box_extent (core_box place) ∷ []
 
+-- those of a tile: of the components of what is left of the window's image without its background
 abbrev pub open_of_tile : Order → Choice → TilePlace → Raster → List Extent
 open_of_tile order choice place image =
     left_open choice.threshold place (sure_extent_of order.flat order.mesh place image)
@@ -80,7 +81,8 @@ pub record IsTileOfWindow (order : Order) (choice : Choice) (place : TilePlace) 
 
 -- ---- what a file has room for
 
--- the frames of a tile lie in the image, and its numbers are small: those of a row fit its columns, and all of them 64 bits; there are few rows and boxes
+-- The frames of a tile lie in the image, and its numbers are small: those of a row fit its columns, and all of them 64 bits. There are few rows and
+-- boxes: three more fit a table
 pub record IsStorable (t : TileCatalogue) : Type 0 where
   pub window : is_frame_of t.whole t.window ≡ true
   pub core : is_frame_of t.whole t.core ≡ true
