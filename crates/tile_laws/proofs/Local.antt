@@ -98,16 +98,20 @@ ordered_at r (x ∷ xs) zero (suc j) o l k = o.0 (slice_index xs j) (among_at xs
 ordered_at r (x ∷ xs) (suc i) zero o l k = absurd (omega (arith, l))
 ordered_at r (x ∷ xs) (suc i) (suc j) o l k = ordered_at r xs i j o.1 (omega (arith, l)) (omega (arith, k))
 
-in_node_order : (r : Raster) (connect : Connect) → IsOrdered r (nodes r connect)
+-- nodes stand in the order of the pixels that represent them
+node_order : (r : Raster) (connect : Connect) (i j : ℕ) → i < j → j < length (nodes r connect)
+    → IsTrue (is_earlier r (top_of r connect i) (top_of r connect j))
 unfolding nodes pixels
-in_node_order r connect = ordered-in_order r (is_representative r connect) (λ q k. (is_representative-parts r connect q k).0) 0 (length r.values)
+node_order r connect i j l k =
+    ordered_at r (nodes r connect) i j
+    (ordered-in_order r (is_representative r connect) (λ q d. (is_representative-parts r connect q d).0) 0 (length r.values)) l k
 
 order_there : (r s : Raster) (connect : Connect) (h : ℤ) (n m a b : ℕ) → AlikeAbove r s h → IsCounterpart r s connect h n m → IsCounterpart r s connect h a b
     → n < a → m < b
 order_there r s connect h n m a b alike c d l = go (cases_order m b)
   where
     first : IsTrue (is_earlier r (top_of r connect n) (top_of r connect a))
-    first = ordered_at r (nodes r connect) n a (in_node_order r connect) l d.one
+    first = node_order r connect n a l d.one
 
     there : IsTrue (is_earlier s (top_of r connect n) (top_of r connect a))
     there =
@@ -127,7 +131,7 @@ order_there r s connect h n m a b alike c d l = go (cases_order m b)
     go (inr (inr k)) =
         absurd (earlier_irrefl s (top_of s connect m)
         (earlier_trans s (top_of s connect m) (top_of s connect b) (top_of s connect m) earlier
-        (ordered_at s (nodes s connect) b m (in_node_order s connect) k c.other)))
+        (node_order s connect b m k c.other)))
 
 -- ---- the whole components, in pairs
 

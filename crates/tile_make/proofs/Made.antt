@@ -1,5 +1,5 @@
 -- A tile that tells what was found in a window's plane is one that is made of the image.
-use Rattle.std.proofs.Common.{◌≡◌, ℕ, ◌+◌, ◌*◌, ◌<◌, Bool, true, false, cond, List, [], length, map, refl, sym, ◌∙◌, ap, subst, arith, Option, Some, None}
+use Rattle.std.proofs.Common.{◌≡◌, ℕ, ◌+◌, ◌*◌, ◌<◌, Bool, true, false, cond, List, [], ◌∷◌, length, map, refl, sym, ◌∙◌, ap, subst, arith, Option, Some, None}
 use Rattle.std.specs.Prelude.{IsTrue, IfSome, ℤ, filter}
 use Rattle.std.proofs.lemmas.Bool.{or_left, true≢false}
 use Rattle.std.proofs.lemmas.List.{length-map}
@@ -25,10 +25,11 @@ use Rattle.source_pick.specs.Locality.{HaveSameSources, is_beside_high, is_near_
 use Rattle.source_pick.proofs.Exported.{shape-kept}
 use Rattle.tile_laws.specs.declared.extents.Extent.{Extent}
 use Rattle.tile_laws.specs.Clear.{clear_box, window_box, IsBoxWithin, IsSureBox}
-use Rattle.tile_laws.specs.Extents.{extent_box}
+use Rattle.tile_laws.specs.Extents.{box_extent, extent_box}
 use Rattle.tile_laws.specs.Knowing.{KnowsItsCore}
 use Rattle.tile_laws.specs.Pieces.{DetectionChoice, Piece, searched, detected, mapped, first_pixel, AnswersForCore}
-use Rattle.tile_laws.proofs.Exported.{IsPlacedIn, placed_in, in_from_placed}
+use Rattle.tile_laws.specs.Opening.{holds_box}
+use Rattle.tile_laws.proofs.Exported.{IsPlacedIn, open_alike, placed_in, in_from_placed}
 use Rattle.orders.specs.declared.words.Order.{Order}
 use Rattle.tile_join.specs.declared.tiles.Frame.{Frame}
 use Rattle.tile_join.specs.declared.tiles.TileCatalogue.{TileCatalogue}
@@ -36,7 +37,7 @@ use Rattle.tile_join.specs.Tiles.{window_of, is_in_frame}
 use Rattle.tile_join.specs.Made.{own_rows, piece_of, IsTileMade}
 use Rattle.tile_make.specs.declared.placing.TilePlace.{TilePlace}
 use Rattle.tile_make.specs.Placed.{window_of_place, detection_of}
-use Rattle.tile_make.specs.TileOf.{frame_at, kept_of, left_open, own_of, sure_extent_of, IsTileOfWindow}
+use Rattle.tile_make.specs.TileOf.{core_box, frame_at, left_open, own_of, sure_extent_of, IsTileOfWindow}
 use Rattle.tile_make.specs.Told.{MakingLaws, HasNoEmptyCell, IsPlacedWell, IsSureExtent, IsKnown, IsTold}
 
 -- ---- the plane that is kept
@@ -241,9 +242,19 @@ module _ (laws : MakingLaws) (order : Order) (choice : Choice) (place : TilePlac
     answers = λ none. subst (AnswersForCore d r) piece_is (answers_piece none);
   }
 
--- and one that is told to the last number
+-- ---- the tile, told to the last number
+
+-- the boxes that are left open of two planes with the same pixels of at least the threshold
+left_alike : (threshold : ℤ) (place : TilePlace) (sure : Option Extent) (connect : Connect) (r s : Raster) → IsPlane r → IsPlane s → AlikeAbove r s threshold
+    → left_open threshold place sure (tree_of r connect).rows (sums_in r connect) ≡ left_open threshold place sure (tree_of s connect).rows (sums_in s connect)
+unfolding left_open
+left_alike threshold place None connect r s one other alike = refl
+left_alike threshold place (Some sure) connect r s one other alike =
+    ap (λ (boxes : List Extent). cond (holds_box (extent_box sure) (core_box place)) boxes (box_extent (core_box place) ∷ []))
+    (open_alike r s connect threshold place.left place.top place.whole (core_box place) (extent_box sure) one other alike)
+
 pub tile_of_window : (order : Order) (choice : Choice) (place : TilePlace) (image k : Raster) (sure : Option Extent) (t : TileCatalogue)
-    → sure ≡ sure_extent_of order.flat order.mesh place image → k ≡ kept_of order choice image
+    → sure ≡ sure_extent_of order.flat order.mesh place image → k ≡ kept (residual_of image order.mesh order.flat) order.connect choice.threshold
     → HaveSameSources (residual_of image order.mesh order.flat) k order.connect choice → IsTold k order.connect choice place sure t
     → IsTileOfWindow order choice place image t
 tile_of_window order choice place image k sure t sure_is k_is same told = record {
@@ -256,11 +267,20 @@ tile_of_window order choice place image k sure t sure_is k_is same told = record
   «open» =
       told.open
       ∙ ap (λ (o : Option Extent). left_open choice.threshold place o (tree_of k order.connect).rows (sums_in k order.connect)) sure_is
-      ∙ ap (λ (x : Raster). left_open choice.threshold place (sure_extent_of order.flat order.mesh place image) (tree_of x order.connect).rows
-      (sums_in x order.connect)) k_is;
+      ∙ sym (left_alike choice.threshold place (sure_extent_of order.flat order.mesh place image) order.connect left k left_plane told.plane alike);
 }
   where
+    left : Raster
+    left = residual_of image order.mesh order.flat
+
+    k_left : k.shape ≡ left.shape
+    k_left = ap (λ (x : Raster). x.shape) k_is ∙ shape-kept (residual_of image order.mesh order.flat) order.connect choice.threshold
+
     k_shape : k.shape ≡ image.shape
-    k_shape =
-        ap (λ (x : Raster). x.shape) k_is ∙ shape-kept (residual_of image order.mesh order.flat) order.connect choice.threshold
-        ∙ residual_shape image order.mesh order.flat
+    k_shape = k_left ∙ residual_shape image order.mesh order.flat
+
+    alike : AlikeAbove left k choice.threshold
+    alike = subst (λ (x : Raster). AlikeAbove left x choice.threshold) (sym k_is) (alike_kept left order.connect choice.threshold)
+
+    left_plane : IsPlane left
+    left_plane = alike.size ∙ told.plane ∙ ap (λ (s : Shape). s.width * s.height) k_left

@@ -15,7 +15,6 @@ use Rattle.source_pick.specs.declared.choice.Choice.{Choice}
 use Rattle.source_pick.specs.declared.catalogue.CatRow.{CatRow}
 use Rattle.source_pick.specs.Catalogue.{catalogue, cells_of, moved_row, FitsColumns}
 use Rattle.source_pick.specs.Segmentation.{segmentation}
-use Rattle.source_pick.specs.Locality.{kept}
 use Rattle.tile_laws.specs.declared.extents.Extent.{Extent}
 use Rattle.tile_laws.specs.Clear.{clear_box, window_box}
 use Rattle.tile_laws.specs.Extents.{extent_box, box_extent}
@@ -59,14 +58,11 @@ left_open threshold place (Some sure) rows sums =
     if holds_box (extent_box sure) (core_box place)
     then open_extents threshold rows sums place.left place.top place.whole (core_box place) (extent_box sure) else box_extent (core_box place) ∷ []
 
--- the plane whose components are looked at: what is left of the image without its background, near the pixels of at least the threshold
-abbrev pub kept_of : Order → Choice → Raster → Raster
-kept_of order choice image = kept (residual_of image order.mesh order.flat) order.connect choice.threshold
-
+-- those of a tile: of the components of what is left of the window's image without its background
 abbrev pub open_of_tile : Order → Choice → TilePlace → Raster → List Extent
 open_of_tile order choice place image =
-    left_open choice.threshold place (sure_extent_of order.flat order.mesh place image) (tree_of (kept_of order choice image) order.connect).rows
-    (sums_in (kept_of order choice image) order.connect)
+    left_open choice.threshold place (sure_extent_of order.flat order.mesh place image)
+    (tree_of (residual_of image order.mesh order.flat) order.connect).rows (sums_in (residual_of image order.mesh order.flat) order.connect)
 
 -- ---- the tile
 
@@ -85,7 +81,8 @@ pub record IsTileOfWindow (order : Order) (choice : Choice) (place : TilePlace) 
 
 -- ---- what a file has room for
 
--- the frames of a tile lie in the image, and its numbers are small: those of a row fit its columns, and all of them 64 bits; there are few rows and boxes
+-- The frames of a tile lie in the image, and its numbers are small: those of a row fit its columns, and all of them 64 bits. There are few rows and
+-- boxes: three more fit a table
 pub record IsStorable (t : TileCatalogue) : Type 0 where
   pub window : is_frame_of t.whole t.window ≡ true
   pub core : is_frame_of t.whole t.core ≡ true

@@ -4,7 +4,7 @@ use Rattle.std.specs.Int.{w64}
 use Rattle.std.specs.List.{All}
 use Rattle.comp_tree.specs.declared.shape.Shape.{Shape}
 use Rattle.comp_tree.specs.declared.shape.Connect.{Connect}
-use Rattle.comp_tree.specs.Raster.{Raster, is_defined}
+use Rattle.comp_tree.specs.Raster.{Raster, IsPlane, is_defined}
 use Rattle.comp_tree.specs.Components.{tree_of}
 use Rattle.comp_tree.specs.Windows.{IsInside}
 use Rattle.mesh_background.specs.Mesh.{cell_count, mesh_cell_of}
@@ -69,6 +69,7 @@ pub record IsKnown (k : Raster) (connect : Connect) (choice : Choice) (place : T
 
 -- the tile tells what was found in plane k
 pub record IsTold (k : Raster) (connect : Connect) (choice : Choice) (place : TilePlace) (sure : Option Extent) (t : TileCatalogue) : Type 0 where
+  pub plane : IsPlane k
   pub whole : t.whole ≡ place.whole
   pub window : t.window ≡ frame_at place.left place.top k.shape
   pub core : t.core ≡ place.core

@@ -1,4 +1,4 @@
-use Rattle.std.proofs.Common.{length, ◌∙◌, refl, sym, ap, subst}
+use Rattle.std.proofs.Common.{◌*◌, length, ◌∙◌, refl, sym, ap, subst}
 use Rattle.std.specs.Prelude.{FitsSigned}
 use Rattle.std.specs.Int.{w64}
 use Rattle.std.specs.List.{All}
@@ -41,6 +41,7 @@ returns-clause-told g c =
     let picked = c.in_ok-picked.ensures.exact plane connect tree (c.deref-2.ensures.value ∙ sums) in
     let shape = ap (λ (x : ComponentTree). x.shape) tree ∙ shape-of plane connect in
     record {
+      plane = c.shape.ensures.pixels ∙ ap (λ (s : Shape). s.width * s.height) c.shape.ensures.same;
       whole = refl;
       window = ap (frame_at place.left place.top) c.shape.ensures.same;
       core = refl;
