@@ -17,7 +17,7 @@ use Rattle.source_pick.specs.declared.catalogue.CatRow.{CatRow}
 use Rattle.source_pick.specs.Catalogue.{cells_of, FitsColumn, FitsColumns}
 use Rattle.source_pick.proofs.Exported.{row_fits, same_row}
 use Rattle.tile_file.specs.TileFiles.{IsWritableRow, AreTileRows}
-use Rattle.tile_file.proofs.InTurn.{one_more, all_taken}
+use Rattle.tile_file.proofs.InTurn.{one_more, all_taken, length_of_all}
 
 -- ---- one row
 
@@ -84,10 +84,6 @@ same_rows [] (other ∷ others) is = absurd (cc)
 same_rows (row ∷ rows) [] is = absurd (cc)
 same_rows (row ∷ rows) (other ∷ others) is =
     let both = same_cells row other (flat_map cells_of rows) (flat_map cells_of others) is in ap₂ ◌∷◌ both.0 (same_rows rows others both.1)
-
-pub many_cells : (rows : List CatRow) → length (flat_map cells_of rows) ≡ cells_in_row * length rows
-many_cells [] = refl
-many_cells (row ∷ rows) = omega (arith, many_cells rows)
 
 -- ---- rows that can be written
 
@@ -172,7 +168,7 @@ rows_from_table rows cells is table whole = record {
   where
     count : length cells / length catalogue_columns ≡ length rows
     count =
-        ap₂ ◌/◌ (ap length is ∙ many_cells rows) seventeen ∙ mul-div_cancel_left (length rows) (omega arith)
+        ap₂ ◌/◌ (ap length is ∙ length_of_all cells_of cells_in_row rows (λ r. refl)) seventeen ∙ mul-div_cancel_left (length rows) (omega arith)
 
 -- cells that are read row by row: what is left has no whole row, so nothing is left
 pub none_left : (rows : List CatRow) (cells rest : List ℤ) → cells ≡ flat_map cells_of rows ++ rest → length cells % cells_in_row ≡ 0 → length rest < cells_in_row
@@ -180,7 +176,7 @@ pub none_left : (rows : List CatRow) (cells rest : List ℤ) → cells ≡ flat_
 none_left rows cells rest is whole few = empty rest none
   where
     long : length cells ≡ cells_in_row * length rows + length rest
-    long = ap length is ∙ length-append (flat_map cells_of rows) rest ∙ ap (λ n. n + length rest) (many_cells rows)
+    long = ap length is ∙ length-append (flat_map cells_of rows) rest ∙ ap (λ n. n + length rest) (length_of_all cells_of cells_in_row rows (λ r. refl))
 
     none : length rest ≡ 0
     none = omega (arith, whole, few, long)

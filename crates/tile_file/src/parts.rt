@@ -31,7 +31,10 @@ pub(crate) struct BoxesAhead<'a> {
 }
 
 /// The table of boxes at the front of the bytes, if there is one.
-pub(crate) fn split_boxes(alloc: Global, bytes: &[u8]) -> Result<Option<BoxesAhead<'_>>, OutOfMemory>
+pub(crate) fn split_boxes(
+    alloc: Global,
+    bytes: &[u8],
+) -> Result<Option<BoxesAhead<'_>>, OutOfMemory>
     ensures bytes { IfOk result (λ found. IfSome found (λ ahead.
         bytes.now ≡ boxes_hdu ahead.boxes.whole ahead.boxes.window ahead.boxes.core ahead.boxes.open.items ++ ahead.rest.now)) }
     ensures fit { IfOk result (λ found. IfSome found (λ ahead.
@@ -68,7 +71,11 @@ fn are_small(numbers: &[u32]) -> bool
 }
 
 /// The map of a window of this shape at the front of the bytes, if there is one.
-pub(crate) fn split_numbers(alloc: Global, bytes: &[u8], shape: Shape) -> Result<Option<NumbersAhead<'_>>, OutOfMemory>
+pub(crate) fn split_numbers(
+    alloc: Global,
+    bytes: &[u8],
+    shape: Shape,
+) -> Result<Option<NumbersAhead<'_>>, OutOfMemory>
     ensures bytes { IfOk result (λ found. IfSome found (λ ahead. bytes.now ≡ map_hdu shape ahead.numbers.items ++ ahead.rest.now)) }
     ensures fit { IfOk result (λ found. IfSome found (λ ahead. AreTileNumbers shape ahead.numbers.items)) }
     ensures none { IfOk result (λ found. IfNone found ((numbers : List ℕ) (rest : List ℕ)

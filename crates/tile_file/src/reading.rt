@@ -6,8 +6,8 @@ ghost use Rattle.tile_join.specs.declared.tiles.TileCatalogue.{TileCatalogue};
 ghost use Rattle.tile_file.specs.TileFiles.{tile_bytes, bytes_of_tiles, IsTileFile};
 
 use crate::frames::TileBoxes;
-use crate::parts::{split_boxes, split_numbers, split_rows};
 use crate::laws::tiles_are_told_apart;
+use crate::parts::{split_boxes, split_numbers, split_rows};
 use costs::OutOfMemory;
 use fits_back::laws::{maps_are_told_apart, tables_are_told_apart};
 use fits_back::split_primary;
