@@ -1,5 +1,5 @@
 -- Rows of the catalogue by their cells.
-use Rattle.std.proofs.Common.{◌≡◌, ◌∙◌, ℕ, zero, suc, ◌+◌, ◌-◌, ◌*◌, ◌/◌, ◌%◌, ◌<◌, ◌≤◌, List, [], ◌∷◌, ◌++◌, length, map, flat_map, get_or}
+use Rattle.std.proofs.Common.{◌≡◌, ◌∙◌, ℕ, suc, ◌+◌, ◌-◌, ◌*◌, ◌/◌, ◌%◌, ◌<◌, List, [], ◌∷◌, ◌++◌, length, map, flat_map, get_or}
 use Rattle.std.proofs.Common.{refl, sym, ap, ap₂, subst, subst₂, arith, ℤ, pos, negsuc, FitsSigned, w32, w64, All, length-append, take, drop, take-append-drop}
 use Rattle.std.specs.List.{AllByRecursion, range_with_len}
 use Rattle.std.proofs.lemmas.Int.{ints}
@@ -8,13 +8,13 @@ use mir.Val.{of_z, to_z}
 use Rattle.std.proofs.lemmas.List.{get_or-append_right, get_or_append_left}
 use Rattle.std.proofs.lemmas.List.Concat.{flat_map-append}
 use Rattle.std.proofs.lemmas.List.Elements.{All-from_recursion, recursion_from_All, All-append}
-use Rattle.std.proofs.Math.Nat.{add-mod_left, mul-div_cancel_left, mul-add-mod_self_left}
+use Rattle.std.proofs.Math.Nat.{add-mod_left, mul-div_cancel_left}
 use Rattle.fits_write.specs.declared.table.Cell.TheVariants.{J}
 use Rattle.fits_write.specs.Columns.{FitsCell, cell_at, number_at, IsTable}
 use Rattle.fits_write.specs.CatalogueColumns.{catalogue_columns, cells_in_row}
-use Rattle.fits_write.proofs.Exported.{FitEach, catalogue_are_columns, cells_of_rows, rows_are_table}
+use Rattle.fits_write.proofs.Exported.{FitEach, catalogue_are_columns, rows_are_table}
 use Rattle.source_pick.specs.declared.catalogue.CatRow.{CatRow}
-use Rattle.source_pick.specs.Catalogue.{cells_of, FitsColumn, FitsColumns}
+use Rattle.source_pick.specs.Catalogue.{cells_of, FitsColumn}
 use Rattle.source_pick.proofs.Exported.{row_fits, same_row}
 use Rattle.tile_file.specs.TileFiles.{IsWritableRow, AreTileRows}
 use Rattle.tile_file.proofs.InTurn.{one_more, all_taken, length_of_all}
@@ -114,7 +114,7 @@ record Fit (cells : List ℤ) : Type 0 where
   column : (k : ℕ) → k < length cells → FitsCell (cell_at catalogue_columns k) (number_at cells k)
   whole : All (FitsSigned w64) cells
 
-pub seventeen : length catalogue_columns ≡ cells_in_row
+seventeen : length catalogue_columns ≡ cells_in_row
 unfolding catalogue_columns
 seventeen = refl
 

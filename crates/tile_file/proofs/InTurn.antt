@@ -1,5 +1,5 @@
 -- Things that are written one behind the other, and taken off one by one.
-use Rattle.std.proofs.Common.{◌≡◌, ◌∙◌, Bool, true, false, eqb, length, List, [], ◌∷◌, ◌++◌, flat_map, sym, ap, subst, append_assoc, append-nil, ap₂, length-append, mul-suc, mul-zero, add_comm}
+use Rattle.std.proofs.Common.{◌≡◌, ◌∙◌, false, eqb, length, List, [], ◌∷◌, ◌++◌, flat_map, sym, ap, append_assoc, append-nil, ap₂, length-append, mul-suc, mul-zero, add_comm}
 use Rattle.std.proofs.Common.{ℕ, ◌+◌, ◌*◌}
 use Rattle.std.specs.List.{AllByRecursion}
 use Rattle.std.proofs.lemmas.List.Concat.{flat_map-append}
