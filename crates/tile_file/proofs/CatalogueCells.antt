@@ -77,6 +77,10 @@ pub front_row : (cells front rest : List ℤ) (row : CatRow) → (front ≡ take
     → cells_of row ≡ front → cells ≡ cells_of row ++ rest
 front_row cells front rest row cases is = sym (take-append-drop 17 cells) ∙ ap₂ ◌++◌ (sym (is ∙ cases.0)) (sym cases.1)
 
+-- a row with the same cells is the same
+pub one_row_each : (row other : CatRow) → cells_of row ≡ cells_of other → row ≡ other
+one_row_each row other is = (same_cells row other [] [] (ap (λ l. l ++ []) is)).0
+
 -- rows with the same cells are the same
 pub same_rows : (rows others : List CatRow) → flat_map cells_of rows ≡ flat_map cells_of others → rows ≡ others
 same_rows [] [] is = refl
