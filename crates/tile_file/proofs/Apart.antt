@@ -1,6 +1,6 @@
 -- Tiles, and their parts, are known by their bytes.
-use Rattle.std.proofs.Common.{◌≡◌, ◌∙◌, ℕ, ◌+◌, ◌*◌, ◌^◌, ◌<◌, ◌≤◌, Bool, true, false, not, IsTrue, List, [], ◌∷◌, ◌++◌, length, flat_map, replicate}
-use Rattle.std.proofs.Common.{refl, sym, ap, ap₂, subst, subst₂, arith, ℤ, pos, FitsSigned, w64, All, append_assoc, append-nil, length-append, ◌%◌}
+use Rattle.std.proofs.Common.{◌≡◌, ◌∙◌, ℕ, ◌*◌, ◌^◌, ◌<◌, ◌≤◌, Bool, true, false, IsTrue, List, [], ◌∷◌, ◌++◌, length, flat_map}
+use Rattle.std.proofs.Common.{refl, sym, ap, ap₂, subst, subst₂, arith, ℤ, FitsSigned, w64, All, append_assoc, append-nil, length-append, ◌%◌}
 use Rattle.std.specs.Prelude.{codes, ◌↔◌}
 use Rattle.std.specs.List.{AllByRecursion, list_all}
 use Rattle.std.proofs.lemmas.List.{append_cancel_left}
@@ -20,9 +20,9 @@ use Rattle.tile_join.specs.declared.tiles.TileCatalogue.{TileCatalogue}
 use Rattle.tile_file.specs.TileFiles.{box_columns, box_cells, image_extent, frame_extent, tile_extents, boxes_hdu, rows_hdu, tile_hdus, tile_bytes}
 use Rattle.tile_file.specs.TileFiles.{bytes_of_tiles, AreTileBoxes, AreTileNumbers, AreTileRows, IsTileFile}
 use Rattle.fits_back.specs.Laws.{TablesAreToldApart, MapsAreToldApart}
-use Rattle.tile_file.specs.Laws.{AreSameTile, AreSameTiles, TilesAreToldApart, TileFilesAreToldApart}
+use Rattle.tile_file.specs.Laws.{AreSameTiles, TilesAreToldApart, TileFilesAreToldApart}
 use Rattle.tile_file.proofs.Extents.{plain_boxes, same_boxes, same_image, same_frame, extents_table, extents_whole, narrow_whole}
-use Rattle.tile_file.proofs.CatalogueCells.{same_rows, rows_table, rows_whole, rows_from_table, seventeen}
+use Rattle.tile_file.proofs.CatalogueCells.{same_rows, rows_table, rows_whole, rows_from_table}
 use Rattle.tile_file.proofs.InTurn.{nothing_else}
 
 -- ---- tables and maps that are read
@@ -102,11 +102,6 @@ pub rows_fit : (columns : List Column) (cells read : List ℤ) (rows : List CatR
     → read ≡ flat_map cells_of rows → All (FitsSigned w64) read → AreTileRows rows
 rows_fit columns cells read rows same table read_is are fits =
     rows_from_table rows read are (subst₂ IsTable same (sym read_is) table) fits
-
-pub whole_rows : (columns : List Column) (cells read : List ℤ) → columns ≡ catalogue_columns → IsTable columns cells → read ≡ cells
-    → length read % cells_in_row ≡ 0
-whole_rows columns cells read same table read_is =
-    subst (λ n. length read % n ≡ 0) seventeen (subst₂ IsTable same (sym read_is) table).whole_rows
 
 -- ---- the bytes of a tile
 

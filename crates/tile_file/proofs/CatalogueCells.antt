@@ -1,5 +1,5 @@
 -- Rows of the catalogue by their cells.
-use Rattle.std.proofs.Common.{◌≡◌, ◌∙◌, ℕ, zero, suc, ◌+◌, ◌-◌, ◌*◌, ◌/◌, ◌%◌, ◌<◌, ◌≤◌, List, [], ◌∷◌, ◌++◌, length, map, flat_map, get_or}
+use Rattle.std.proofs.Common.{◌≡◌, ◌∙◌, ℕ, suc, ◌+◌, ◌-◌, ◌*◌, ◌/◌, ◌%◌, ◌<◌, List, [], ◌∷◌, ◌++◌, length, map, flat_map, get_or}
 use Rattle.std.proofs.Common.{refl, sym, ap, ap₂, subst, subst₂, arith, ℤ, pos, negsuc, FitsSigned, w32, w64, All, length-append, take, drop, take-append-drop}
 use Rattle.std.specs.List.{AllByRecursion, range_with_len}
 use Rattle.std.proofs.lemmas.Int.{ints}
@@ -8,16 +8,16 @@ use mir.Val.{of_z, to_z}
 use Rattle.std.proofs.lemmas.List.{get_or-append_right, get_or_append_left}
 use Rattle.std.proofs.lemmas.List.Concat.{flat_map-append}
 use Rattle.std.proofs.lemmas.List.Elements.{All-from_recursion, recursion_from_All, All-append}
-use Rattle.std.proofs.Math.Nat.{add-mod_left, mul-div_cancel_left, mul-add-mod_self_left}
+use Rattle.std.proofs.Math.Nat.{add-mod_left, mul-div_cancel_left}
 use Rattle.fits_write.specs.declared.table.Cell.TheVariants.{J}
 use Rattle.fits_write.specs.Columns.{FitsCell, cell_at, number_at, IsTable}
 use Rattle.fits_write.specs.CatalogueColumns.{catalogue_columns, cells_in_row}
-use Rattle.fits_write.proofs.Exported.{FitEach, catalogue_are_columns, cells_of_rows, rows_are_table}
+use Rattle.fits_write.proofs.Exported.{FitEach, catalogue_are_columns, rows_are_table}
 use Rattle.source_pick.specs.declared.catalogue.CatRow.{CatRow}
-use Rattle.source_pick.specs.Catalogue.{cells_of, FitsColumn, FitsColumns}
+use Rattle.source_pick.specs.Catalogue.{cells_of, FitsColumn}
 use Rattle.source_pick.proofs.Exported.{row_fits, same_row}
 use Rattle.tile_file.specs.TileFiles.{IsWritableRow, AreTileRows}
-use Rattle.tile_file.proofs.InTurn.{one_more, all_taken}
+use Rattle.tile_file.proofs.InTurn.{one_more, all_taken, length_of_all}
 
 -- ---- one row
 
@@ -77,6 +77,10 @@ pub front_row : (cells front rest : List ℤ) (row : CatRow) → (front ≡ take
     → cells_of row ≡ front → cells ≡ cells_of row ++ rest
 front_row cells front rest row cases is = sym (take-append-drop 17 cells) ∙ ap₂ ◌++◌ (sym (is ∙ cases.0)) (sym cases.1)
 
+-- a row with the same cells is the same
+pub one_row_each : (row other : CatRow) → cells_of row ≡ cells_of other → row ≡ other
+one_row_each row other is = (same_cells row other [] [] (ap (λ l. l ++ []) is)).0
+
 -- rows with the same cells are the same
 pub same_rows : (rows others : List CatRow) → flat_map cells_of rows ≡ flat_map cells_of others → rows ≡ others
 same_rows [] [] is = refl
@@ -84,10 +88,6 @@ same_rows [] (other ∷ others) is = absurd (cc)
 same_rows (row ∷ rows) [] is = absurd (cc)
 same_rows (row ∷ rows) (other ∷ others) is =
     let both = same_cells row other (flat_map cells_of rows) (flat_map cells_of others) is in ap₂ ◌∷◌ both.0 (same_rows rows others both.1)
-
-pub many_cells : (rows : List CatRow) → length (flat_map cells_of rows) ≡ cells_in_row * length rows
-many_cells [] = refl
-many_cells (row ∷ rows) = omega (arith, many_cells rows)
 
 -- ---- rows that can be written
 
@@ -118,7 +118,7 @@ record Fit (cells : List ℤ) : Type 0 where
   column : (k : ℕ) → k < length cells → FitsCell (cell_at catalogue_columns k) (number_at cells k)
   whole : All (FitsSigned w64) cells
 
-pub seventeen : length catalogue_columns ≡ cells_in_row
+seventeen : length catalogue_columns ≡ cells_in_row
 unfolding catalogue_columns
 seventeen = refl
 
@@ -172,7 +172,7 @@ rows_from_table rows cells is table whole = record {
   where
     count : length cells / length catalogue_columns ≡ length rows
     count =
-        ap₂ ◌/◌ (ap length is ∙ many_cells rows) seventeen ∙ mul-div_cancel_left (length rows) (omega arith)
+        ap₂ ◌/◌ (ap length is ∙ length_of_all cells_of cells_in_row rows (λ r. refl)) seventeen ∙ mul-div_cancel_left (length rows) (omega arith)
 
 -- cells that are read row by row: what is left has no whole row, so nothing is left
 pub none_left : (rows : List CatRow) (cells rest : List ℤ) → cells ≡ flat_map cells_of rows ++ rest → length cells % cells_in_row ≡ 0 → length rest < cells_in_row
@@ -180,7 +180,7 @@ pub none_left : (rows : List CatRow) (cells rest : List ℤ) → cells ≡ flat_
 none_left rows cells rest is whole few = empty rest none
   where
     long : length cells ≡ cells_in_row * length rows + length rest
-    long = ap length is ∙ length-append (flat_map cells_of rows) rest ∙ ap (λ n. n + length rest) (many_cells rows)
+    long = ap length is ∙ length-append (flat_map cells_of rows) rest ∙ ap (λ n. n + length rest) (length_of_all cells_of cells_in_row rows (λ r. refl))
 
     none : length rest ≡ 0
     none = omega (arith, whole, few, long)

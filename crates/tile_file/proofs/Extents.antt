@@ -1,5 +1,5 @@
 -- Boxes by their cells.
-use Rattle.std.proofs.Common.{◌≡◌, ◌∙◌, ℕ, zero, suc, get_or, ◌+◌, ◌-◌, ◌*◌, ◌/◌, ◌%◌, ◌<◌, ◌≤◌, ◌⊎◌, inl, inr, Bool, true, false, not, IsTrue, List, [], ◌∷◌, ◌++◌, length, flat_map}
+use Rattle.std.proofs.Common.{◌≡◌, ◌∙◌, ℕ, zero, suc, get_or, ◌+◌, ◌-◌, ◌*◌, ◌/◌, ◌%◌, ◌<◌, ◌≤◌, ◌⊎◌, inl, inr, Bool, true, not, IsTrue, List, [], ◌∷◌, ◌++◌, length, flat_map}
 use Rattle.std.proofs.Common.{refl, sym, ap, ap₂, subst, arith, ℤ, pos, negsuc, FitsSigned, w32, w64, All}
 use Rattle.std.specs.Prelude.{◌&&◌, nat_le}
 use Rattle.std.specs.List.{AllByRecursion, list_all}
@@ -18,7 +18,7 @@ use Rattle.tile_laws.specs.declared.extents.Extent.{Extent}
 use Rattle.tile_join.specs.declared.tiles.Frame.{Frame}
 use Rattle.tile_join.specs.Tiles.{is_frame_of}
 use Rattle.tile_file.specs.TileFiles.{box_columns, box_cells, image_extent, frame_extent, tile_extents, HasEndsWithin, AreTileBoxes}
-use Rattle.tile_file.proofs.InTurn.{nothing_else}
+use Rattle.tile_file.proofs.InTurn.{nothing_else, length_of_all}
 
 -- ---- one box
 
@@ -141,15 +141,10 @@ each_cell P [] each all = λ k d h. absurd (omega (arith, h))
 each_cell P (e ∷ es) each all =
     All-append P (box_cells e) (flat_map box_cells es) (All-from_recursion P (box_cells e) (each e all.0)) (each_cell P es each all.1)
 
--- how many cells so many boxes have
-pub many_cells : (es : List Extent) → length (flat_map box_cells es) ≡ 4 * length es
-many_cells [] = refl
-many_cells (e ∷ es) = omega (arith, many_cells es)
-
-boxes_table : (es : List Extent) → AllByRecursion HasEndsWithin es → length es ≤ 2147483647 → IsTable box_columns (flat_map box_cells es)
+pub boxes_table : (es : List Extent) → AllByRecursion HasEndsWithin es → length es ≤ 2147483647 → IsTable box_columns (flat_map box_cells es)
 boxes_table es all few =
     let cells = flat_map box_cells es in
-    let many : length cells ≡ length box_columns * length es = many_cells es ∙ ap (λ n. n * length es) (sym four_columns) in
+    let many : length cells ≡ length box_columns * length es = length_of_all box_cells 4 es (λ e. refl) ∙ ap (λ n. n * length es) (sym four_columns) in
     let some : 0 < length box_columns = omega (arith, four_columns) in
     let rows : length cells / length box_columns ≡ length es = ap (λ n. n / length box_columns) many ∙ mul-div_cancel_left (length es) some in
     record {
@@ -274,7 +269,7 @@ tile_found cells a b d s w k boxes few first second third last =
     let is : cells ≡ flat_map box_cells (tile_extents s w k boxes) = first
     ∙ ap (λ l. box_cells (image_extent s) ++ l) (second.0
     ∙ ap (λ l. box_cells (frame_extent w) ++ l) (third.0 ∙ ap (λ l. box_cells (frame_extent k) ++ l) last.0)) in
-    let many : length cells ≡ 4 * length (tile_extents s w k boxes) = ap length is ∙ many_cells (tile_extents s w k boxes) in (
+    let many : length cells ≡ 4 * length (tile_extents s w k boxes) = ap length is ∙ length_of_all box_cells 4 (tile_extents s w k boxes) (λ e. refl) in (
       is,
       record { window_inside = second.1; core_inside = third.1; ends = last.1; few = omega (arith, few, many) },
     )

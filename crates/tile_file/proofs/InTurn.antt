@@ -1,5 +1,6 @@
 -- Things that are written one behind the other, and taken off one by one.
-use Rattle.std.proofs.Common.{◌≡◌, ◌∙◌, Bool, true, false, eqb, length, List, [], ◌∷◌, ◌++◌, flat_map, sym, ap, subst, append_assoc, append-nil}
+use Rattle.std.proofs.Common.{◌≡◌, ◌∙◌, false, eqb, length, List, [], ◌∷◌, ◌++◌, flat_map, sym, ap, append_assoc, append-nil, ap₂, length-append, mul-suc, mul-zero, add_comm}
+use Rattle.std.proofs.Common.{ℕ, ◌+◌, ◌*◌}
 use Rattle.std.specs.List.{AllByRecursion}
 use Rattle.std.proofs.lemmas.List.Concat.{flat_map-append}
 
@@ -43,10 +44,13 @@ pub all_taken : {X A : Type 0} (write : X → List A) (xs : List X) (whole rest 
     → whole ≡ flat_map write xs
 all_taken write xs whole rest before none = before ∙ ap (λ l. flat_map write xs ++ l) none ∙ append-nil (flat_map write xs)
 
--- one more is so
-pub each_more : {X : Type 0} (P : X → Type 0) (xs : List X) (x : X) → AllByRecursion P xs → P x → AllByRecursion P (xs ++ x ∷ [])
-each_more P [] x all here = (here, tt)
-each_more P (y ∷ xs) x all here = (all.0, each_more P xs x all.1 here)
+-- how many are written of each
+pub length_of_all : {X A : Type 0} (write : X → List A) (n : ℕ) (xs : List X) → ((x : X) → length (write x) ≡ n)
+    → length (flat_map write xs) ≡ n * length xs
+length_of_all write n [] each = sym (mul-zero n)
+length_of_all write n (x ∷ xs) each =
+    length-append (write x) (flat_map write xs) ∙ ap₂ ◌+◌ (each x) (length_of_all write n xs each) ∙ add_comm n (n * length xs)
+    ∙ sym (mul-suc n (length xs))
 
 -- there is more where the test says so
 pub more_left : {X : Type 0} (xs : List X) → false ≡ eqb (length xs) 0 → xs ≡ [] → ⊥

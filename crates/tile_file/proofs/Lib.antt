@@ -1,5 +1,5 @@
-pub mod InTurn
-pub mod Extents
-pub mod CatalogueCells
-pub mod Puts
-pub mod Apart
+mod InTurn
+mod Extents
+mod CatalogueCells
+mod Puts
+mod Apart

@@ -3,6 +3,7 @@
 ghost use Rattle.std.specs.Prelude.{◌≡◌, ◌<◌, ◌%◌, ◌++◌, IfSome, IfNone, ℕ, FitsSigned, IfOk, OnOk, length};
 ghost use Rattle.std.specs.Int.{w64};
 ghost use Rattle.std.specs.List.{All, flat_map};
+ghost use Rattle.source_pick.specs.declared.catalogue.CatRow.{CatRow};
 ghost use Rattle.source_pick.specs.Catalogue.{cells_of};
 ghost use Rattle.fits_write.specs.CatalogueColumns.{cells_in_row};
 
@@ -32,9 +33,10 @@ fn value_of(cell: &i64) -> i64
     *cell
 }
 
-// The row with these cells.
+// The row with these cells, and the only one.
 fn row_of(numbers: &[i64; CELLS_IN_ROW]) -> CatRow
     ensures cells { cells_of result ≡ numbers.now }
+    ensures only { (row : CatRow) → cells_of row ≡ numbers.now → result ≡ row }
     ensures whole { All (FitsSigned w64) (cells_of result) }
 {
     let [

@@ -5,22 +5,17 @@ use Rattle.std.specs.List.{All}
 use Rattle.std.proofs.lemmas.Bool.{and_parts, eqb-true, true≢false}
 use Rattle.std.proofs.lemmas.List.Elements.{All-weaker}
 use Rattle.comp_tree.specs.declared.shape.Shape.{Shape}
-use Rattle.comp_tree.specs.Raster.{Raster, IsPlane, HasValuesInHalfRange}
-use Rattle.mesh_background.specs.Residuals.{residual_of}
-use Rattle.mesh_background.specs.Laws.{ResidualIsPlane, ResidualIsInRange}
-use Rattle.orders.specs.declared.words.Order.{Order}
+use Rattle.comp_tree.specs.Raster.{Raster}
+use Rattle.comp_tree.specs.Raster.{Raster}
 use Rattle.source_pick.specs.declared.catalogue.CatRow.{CatRow}
-use Rattle.source_pick.specs.declared.choice.Choice.{Choice}
 use Rattle.tile_laws.specs.declared.extents.Extent.{Extent}
 use Rattle.tile_join.specs.declared.tiles.Frame.{Frame}
 use Rattle.tile_join.specs.declared.tiles.TileCatalogue.{TileCatalogue}
-use Rattle.tile_make.specs.declared.placing.TilePlace.{TilePlace}
 use Rattle.tile_make.specs.Placed.{lies_along, begins_cells, is_tile_place}
 use Rattle.tile_make.specs.TileOf.{IsTileOfWindow, IsStorable}
 use Rattle.tile_file.specs.TileFiles.{tile_hdus, tile_bytes, HasEndsWithin, IsTileFile}
 use Rattle.tile_words.specs.declared.words.TileOrder.{TileOrder}
 use Rattle.tile_top.specs.TileAnswers.{tile_output, has_window_shape}
-use Rattle.tile_top.proofs.WritableRows.{own_rows_fit}
 
 -- boxes with short sides end within an image
 boxes_end : (boxes : List Extent) → All (λ e. (e.columns.to ≤ 65535) × (e.columns.from ≤ 65535) × (e.rows.to ≤ 65535) × (e.rows.from ≤ 65535)) boxes
@@ -30,9 +25,8 @@ boxes_end boxes short =
     (λ e ends. record { left = ends.1; right = ends.0; top = ends.3; bottom = ends.2 }) boxes short
 
 -- the tile can be written
-pub tile_fits : (order : Order) (choice : Choice) (place : TilePlace) (window : Raster) (t : TileCatalogue) → ResidualIsPlane → ResidualIsInRange
-    → IsPlane window → HasValuesInHalfRange window.values → IsTileOfWindow order choice place window t → IsStorable t → IsTileFile t
-tile_fits order choice place window t is_plane in_range plane half told storable = record {
+pub tile_fits : (t : TileCatalogue) → IsStorable t → IsTileFile t
+tile_fits t storable = record {
   boxes = record {
     window_inside = storable.window;
     core_inside = storable.core;
@@ -41,8 +35,7 @@ tile_fits order choice place window t is_plane in_range plane half told storable
   };
   numbers = record { one_each = storable.map_length; small = storable.small };
   rows = record {
-    fit = own_rows_fit (residual_of window order.mesh order.flat) order.connect choice (is_plane window order.mesh order.flat plane)
-        (in_range window order.mesh order.flat half) place window.shape t.rows.items told.rows storable.rows;
+    fit = λ k d h. record { columns = storable.rows k d h; whole = storable.whole_rows k d h };
     few = storable.few_rows;
   };
 }

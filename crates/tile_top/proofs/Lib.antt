@@ -1,3 +1,2 @@
-mod WritableRows
 mod TileReads
 mod Fitting

@@ -16,7 +16,6 @@ use comp_tree::{Plane, Shape};
 use costs::OutOfMemory;
 use dev_io::{Sink, Source};
 use fits_write::WriteFault;
-use mesh_background::laws::residual_is_a_plane;
 use pixel_plane::{Fault, Limits, Stop, read_image};
 use run_relation::{End, tell};
 use std::alloc::Global;
@@ -47,9 +46,6 @@ fn make_file<R: Threads + Sync, G: Gate>(
     ensures writable { IfOk result CanBePut }
     ensures bytes { IfOk result (λ file. file_bytes file ≡ tile_output order.now image) }
 {
-    // for their clauses alone: an image is a plane, and so is its residual
-    residual_is_a_plane();
-    let _shape = image.shape();
     match make_tile(
         rt,
         alloc,

@@ -1,17 +1,12 @@
-use Rattle.std.proofs.Common.{◌≡◌, ◌∙◌, ◌*◌, ℕ, List, Err, ap, subst, length}
+use Rattle.std.proofs.Common.{◌≡◌, ◌∙◌, ℕ, List, Err, ap, subst}
 use Rattle.std.specs.Prelude.{IfOk}
-use Rattle.comp_tree.specs.declared.shape.Shape.{Shape}
 use Rattle.tile_file.specs.declared.writing.TileFile.{TileFile}
 use Rattle.tile_file.specs.TileFiles.{file_bytes}
 use Rattle.tile_top.proofs.Fitting.{tile_fits, tile_written, placed_in_image}
 use Rattle.tile_top.proofs.tiling.make_file.Goals as goal
 
 pub file_of-requires : goal.file_of-requires
-file_of-requires g c =
-    tile_fits c.args.order.now.order c.args.order.now.choice c.args.order.now.place c.args.image c.in-Ok.tile
-    c.residual_is_a_plane.ensures.one_each c.residual_is_a_plane.ensures.in_range
-    (subst (λ (s : Shape). length c.args.image.values ≡ s.width * s.height) c.shape-shape.ensures.same c.shape-shape.ensures.pixels)
-    c.requires.storable c.in-Ok.ensures.told c.in-Ok.ensures.storable
+file_of-requires g c = tile_fits c.in-Ok.tile c.in-Ok.ensures.storable
 
 pub unreachable-requires : goal.unreachable-requires
 unreachable-requires g c =
