@@ -12,10 +12,10 @@ use Rattle.tree_products.specs.declared.detection.Detection.{Detection}
 use Rattle.tree_products.specs.Catalogues.{hdus, IsDetection, detected_hdus}
 use Rattle.tile_laws.specs.Pieces.{DetectionChoice, searched, detected, mapped}
 use Rattle.tile_join.specs.declared.tiles.TileCatalogue.{TileCatalogue}
-use Rattle.tile_join.specs.Tiles.{rows_of_tiles, AreJoinable}
+use Rattle.tile_join.specs.Tiles.{IsWritableRow, rows_of_tiles, AreJoinable}
 use Rattle.tile_join.specs.Joins.{joined_rows, joined_map}
 use Rattle.tile_join.specs.Made.{IsTileMade, AreTilesMade}
-use Rattle.tile_file.specs.TileFiles.{bytes_of_tiles, IsWritableRow, IsTileFile}
+use Rattle.tile_file.specs.TileFiles.{bytes_of_tiles, IsTileFile}
 use Rattle.tile_file.specs.Laws.{AreSameTile, AreSameTiles, TileFilesAreToldApart}
 use Rattle.join_top.specs.declared.ends.JoinRefusal.TheVariants.{NotTiles, Unjoinable}
 use Rattle.join_top.specs.declared.making.MakeStop.{MakeStop}

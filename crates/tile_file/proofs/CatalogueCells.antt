@@ -16,7 +16,8 @@ use Rattle.fits_write.proofs.Exported.{FitEach, catalogue_are_columns, rows_are_
 use Rattle.source_pick.specs.declared.catalogue.CatRow.{CatRow}
 use Rattle.source_pick.specs.Catalogue.{cells_of, FitsColumn}
 use Rattle.source_pick.proofs.Exported.{row_fits, same_row}
-use Rattle.tile_file.specs.TileFiles.{IsWritableRow, AreTileRows}
+use Rattle.tile_join.specs.Tiles.{IsWritableRow}
+use Rattle.tile_file.specs.TileFiles.{AreTileRows}
 use Rattle.tile_file.proofs.InTurn.{one_more, all_taken, length_of_all}
 
 -- ---- one row

@@ -13,7 +13,7 @@ use Rattle.source_pick.specs.Catalogue.{cells_of, FitsColumns}
 use Rattle.tile_laws.specs.declared.extents.Extent.{Extent}
 use Rattle.tile_join.specs.declared.tiles.Frame.{Frame}
 use Rattle.tile_join.specs.declared.tiles.TileCatalogue.{TileCatalogue}
-use Rattle.tile_join.specs.Tiles.{is_frame_of}
+use Rattle.tile_join.specs.Tiles.{is_frame_of, IsWritableRow}
 use Rattle.tile_file.specs.declared.writing.TileFile.{TileFile}
 
 -- ---- boxes
@@ -85,11 +85,6 @@ pub record AreTileBoxes (whole : Shape) (window core : Frame) (boxes : List Exte
 pub record AreTileNumbers (shape : Shape) (numbers : List ℕ) : Type 0 where
   pub one_each : length numbers ≡ shape.width * shape.height
   pub small : All (λ n. n ≤ 2147483647) numbers
-
--- the numbers of a row fit the columns of a catalogue, and 64 bits
-pub record IsWritableRow (row : CatRow) : Type 0 where
-  pub columns : FitsColumns row
-  pub whole : All (FitsSigned w64) (cells_of row)
 
 -- the rows can stand in a table
 pub record AreTileRows (rows : List CatRow) : Type 0 where

@@ -89,7 +89,7 @@ number_small : (whole : Shape) (tiles : List TileCatalogue) (row : CatRow) → j
 unfolding joined_number
 number_small whole tiles row =
     let k : unwrap_or (position_from (λ other. first_pixel whole.width other == first_pixel whole.width row) 1 (rows_in_order whole tiles)) 0 + 1
-        ≤ 1 + length (rows_in_order whole tiles) =
+    ≤ 1 + length (rows_in_order whole tiles) =
     place_small (λ other. first_pixel whole.width other == first_pixel whole.width row) 1 (rows_in_order whole tiles) (omega arith) in
     omega (arith, k)
 

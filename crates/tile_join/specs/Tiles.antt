@@ -1,9 +1,11 @@
 -- Model: what windows tell of an image, and which of it can be joined.
-use Rattle.std.specs.Prelude.{◌≡◌, ℕ, ◌+◌, ◌*◌, ◌<◌, ◌&&◌, ◌==◌, nat_le, Bool, true, false, IsTrue, pos, int_le, List, [], length, Some, slice_get}
-use Rattle.std.specs.List.{list_all, flat_map}
+use Rattle.std.specs.Prelude.{◌≡◌, ℕ, ◌+◌, ◌*◌, ◌<◌, ◌&&◌, ◌==◌, nat_le, Bool, true, false, IsTrue, pos, int_le, FitsSigned, List, [], length, Some, slice_get}
+use Rattle.std.specs.List.{All, list_all, flat_map}
+use Rattle.std.specs.Int.{w64}
 use Rattle.comp_tree.specs.declared.shape.Shape.{Shape}
 use Rattle.comp_tree.specs.Windows.{Window, is_in_box}
 use Rattle.source_pick.specs.declared.catalogue.CatRow.{CatRow}
+use Rattle.source_pick.specs.Catalogue.{cells_of, FitsColumns}
 use Rattle.source_sheet.specs.Laid.{window_at}
 use Rattle.tile_laws.specs.Clear.{window_box}
 use Rattle.tile_laws.specs.Pieces.{first_pixel}
@@ -60,6 +62,11 @@ pub record IsFirstOfTwo (width : ℕ) (rows : List CatRow) (p : ℕ) : Type 0 wh
   pub other_at : slice_get rows other ≡ Some other_row
   pub first : first_pixel width row ≡ p
   pub other_first : first_pixel width other_row ≡ p
+
+-- the numbers of a row fit the columns of a catalogue, and 64 bits: it can be written
+pub record IsWritableRow (row : CatRow) : Type 0 where
+  pub columns : FitsColumns row
+  pub whole : All (FitsSigned w64) (cells_of row)
 
 -- ---- what is amiss
 

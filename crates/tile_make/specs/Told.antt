@@ -40,11 +40,6 @@ pub record FirstStandsIn (whole : Shape) (row : CatRow) : Type 0 where
   pub top : pos 1 ≤ℤ row.yfirst
   pub bottom : row.yfirst ≤ℤ pos whole.height
 
--- the numbers of a row fit the columns of a table, and 64 bits
-pub record IsStorableRow (row : CatRow) : Type 0 where
-  pub columns : FitsColumns row
-  pub whole : All (FitsSigned w64) (cells_of row)
-
 -- the cells of a plane's mesh that have one of the first pixels, a defined one, are marked, and others aren't
 pub record AreMarkedCells (s : Raster) (mesh count : ℕ) (found : List Bool) : Type 0 where
   pub all : (b : ℕ) → b < count → IsTrue (is_defined s b) → slice_index_or found (mesh_cell_of mesh s.shape.width b) false ≡ true

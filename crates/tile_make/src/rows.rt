@@ -9,9 +9,10 @@ ghost use Rattle.source_pick.specs.Catalogue.{catalogue_of, catalogue_row, moved
 ghost use Rattle.source_pick.specs.Segmentation.{AreDisjointNodes};
 ghost use Rattle.tile_laws.specs.Pieces.{first_pixel};
 ghost use Rattle.tile_join.specs.Tiles.{is_in_frame};
+ghost use Rattle.tile_join.specs.Tiles.{IsWritableRow};
 ghost use Rattle.tile_make.specs.Placed.{window_of_place};
 ghost use Rattle.tile_make.specs.TileOf.{own_of};
-ghost use Rattle.tile_make.specs.Told.{FirstStandsIn, IsStorableRow};
+ghost use Rattle.tile_make.specs.Told.{FirstStandsIn};
 
 use crate::placing::TilePlace;
 use comp_tree::Tree;
@@ -34,7 +35,7 @@ pub(crate) fn own_rows(
     requires inside { IsInside place.now.whole (window_of_place place.now tree.now.shape) }
     ensures exact { IfOk result (λ rows. ForEachPlaneOf tree.now sums.now
         (λ plane connect. rows.items ≡ own_of place.now tree.now.shape (catalogue_of plane connect picked.now))) }
-    ensures fit { IfOk result (λ rows. All IsStorableRow rows.items) }
+    ensures fit { IfOk result (λ rows. All IsWritableRow rows.items) }
     ensures few { IfOk result (λ rows. length rows.items ≤ 2147483647) }
 {
     let mut rows = Vec::new(alloc);
@@ -48,8 +49,8 @@ pub(crate) fn own_rows(
 // Puts a row of the image behind the others, if its first pixel lies in the core.
 fn keep_own(place: &TilePlace, row: CatRow, rows: &mut Vec<CatRow>) -> Result<(), AllocError>
     requires stands { FirstStandsIn place.now.whole row }
-    requires fits { IsStorableRow row }
-    ensures fit { All IsStorableRow rows.old.items → All IsStorableRow rows.new.items }
+    requires fits { IsWritableRow row }
+    ensures fit { All IsWritableRow rows.old.items → All IsWritableRow rows.new.items }
     ensures few { length rows.new.items ≤ length rows.old.items + 1 }
     ensures exact { OnOk result (rows.new.items ≡ rows.old.items ++ filter
         (λ x. is_in_frame place.now.whole.width place.now.core (first_pixel place.now.whole.width x)) (row ∷ [])) }
@@ -70,7 +71,7 @@ fn row_in_image(tree: &Tree, sums: &[Sums], number: u32, node: u32, place: &Tile
     ensures exact { ForEachPlaneOf tree.now sums.now (λ plane connect.
         result ≡ moved_row (window_of_place place.now tree.now.shape) (catalogue_row plane connect number node)) }
     ensures stands { FirstStandsIn place.now.whole result }
-    ensures fits { IsStorableRow result }
+    ensures fits { IsWritableRow result }
 {
     in_image(place, &row(tree, sums, number, node))
 }

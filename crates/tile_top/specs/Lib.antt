@@ -1,1 +1,2 @@
 pub mod TileAnswers
+pub mod Reading

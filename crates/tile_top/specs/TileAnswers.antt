@@ -1,12 +1,11 @@
 -- Model: what the words of `tile` ask of an input: the image of a window.
-use Rattle.std.specs.Prelude.{◌≡◌, ℕ, ◌==◌, ◌&&◌, ◌≤◌, Bool, true, List, [], Result, Ok, Err, if◌then◌else◌}
+use Rattle.std.specs.Prelude.{ℕ, ◌==◌, ◌&&◌, Bool, true, List, [], Result, Ok, Err, if◌then◌else◌}
 use Rattle.comp_tree.specs.declared.shape.Shape.{Shape}
 use Rattle.comp_tree.specs.Raster.{Raster}
 use Rattle.mesh_background.specs.Residuals.{residual_of}
 use Rattle.source_pick.specs.Catalogue.{catalogue}
 use Rattle.source_pick.specs.Segmentation.{segmentation}
 use Rattle.orders.specs.declared.words.Usage.{Usage as AtFault}
-use Rattle.orders.specs.Words.{HasLimits}
 use Rattle.pixel_plane.specs.declared.limits.Limits.{Limits}
 use Rattle.pixel_plane.specs.declared.input_fault.Fault.TheVariants.{ShapeDiffers}
 use Rattle.pixel_plane.specs.Verdicts.{Verdict, image, unfound, unreadable, truncated, out_of_range, verdict_on, taken_for}
@@ -14,7 +13,6 @@ use Rattle.pixel_plane.specs.Streams.{stop_of, memory_at_verdict}
 use Rattle.run_relation.specs.declared.ends.End.TheVariants.{Done, Refused}
 use Rattle.run_relation.specs.Answers.{end_of}
 use Rattle.run_relation.specs.Headline.{Answer, Asked, asked_nothing}
-use Rattle.tile_make.specs.Placed.{is_tile_place}
 use Rattle.tile_make.specs.TileOf.{own_of, frame_at, open_of_tile}
 use Rattle.tile_file.specs.TileFiles.{tile_hdus}
 use Rattle.tile_words.specs.declared.words.TileOrder.{TileOrder}
@@ -26,12 +24,6 @@ tile_output t window =
     let residual = residual_of window t.order.mesh t.order.flat in
     tile_hdus t.place.whole (frame_at t.place.left t.place.top window.shape) t.place.core (open_of_tile t.order t.choice t.place window)
     (own_of t.place window.shape (catalogue residual t.order.connect t.choice)) (segmentation residual t.order.connect t.choice)
-
--- the order is one of a tile, within the limits of what is read
-pub record IsTileOrder (t : TileOrder) : Type 0 where
-  pub limits : HasLimits t.order
-  pub contrast : t.choice.contrast ≤ 1000
-  pub placed : is_tile_place t.place t.window t.order.mesh ≡ true
 
 -- an image has the window's shape
 abbrev pub has_window_shape : TileOrder → Shape → Bool

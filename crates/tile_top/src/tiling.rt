@@ -10,7 +10,8 @@ ghost use Rattle.run_relation.specs.RunEnds.{IsMadeOf, EndBytes, EndCause};
 ghost use Rattle.run_relation.specs.Headline.{Tells, use_of_input, use_of_output, IsUnused, IsRunOf};
 ghost use Rattle.tile_make.specs.Placed.{is_tile_place};
 ghost use Rattle.tile_file.specs.TileFiles.{CanBePut, file_bytes};
-ghost use Rattle.tile_top.specs.TileAnswers.{tile_output, has_window_shape, asked_for_tile, asked_of_tile, IsTileOrder};
+ghost use Rattle.tile_top.specs.TileAnswers.{tile_output, has_window_shape, asked_for_tile, asked_of_tile};
+ghost use Rattle.tile_top.specs.Reading.{IsTileOrder};
 
 use comp_tree::{Plane, Shape};
 use costs::OutOfMemory;

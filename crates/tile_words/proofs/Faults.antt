@@ -8,7 +8,8 @@ use Rattle.pixel_plane.specs.ImageLimits.{plane_shape}
 use Rattle.orders.specs.Options.{u16_in, positive_u16_in}
 use Rattle.orders.specs.Words.{word_at}
 use Rattle.tile_join.specs.declared.tiles.Frame.{Frame}
-use Rattle.tile_words.specs.TileWords.{first_word_at_fault, shape_told, shape_faults, frame_with, frame_told, frame_faults, place_faults}
+use Rattle.tile_make.specs.TileOf.{frame_at}
+use Rattle.tile_words.specs.TileWords.{first_word_at_fault, shape_told, shape_faults, frame_told, frame_faults, place_faults}
 use Rattle.tile_words.specs.TileReading.{IsShapeRead, IsFrameRead, ArePlacesRead}
 
 -- ---- lists of tests
@@ -88,13 +89,13 @@ pub frame_shape_at_fault : (name : List ℕ) (words : List (List ℕ)) (k left t
 frame_shape_at_fault name words k left top j named first second is = shape_of_frame name words k left top named first second ∙ is
 
 frame_by : (words : List (List ℕ)) (k left top : ℕ) (shape : Shape) → u16_in (word_at words (k + 1)) ≡ Some left → u16_in (word_at words (k + 2)) ≡ Some top
-    → shape_told words (k + 3) ≡ Some shape → frame_told words k ≡ Some (frame_with left top shape)
+    → shape_told words (k + 3) ≡ Some shape → frame_told words k ≡ Some (frame_at left top shape)
 unfolding frame_told
 frame_by words k left top shape first second told = rw (first, second, told) refl
 
 pub frame_read : (name : List ℕ) (words : List (List ℕ)) (k left top : ℕ) (shape : Shape) → bytes_eq (word_at words k) name ≡ true
     → u16_in (word_at words (k + 1)) ≡ Some left → u16_in (word_at words (k + 2)) ≡ Some top
-    → IsShapeRead words (k + 3) shape → IsFrameRead name words k (frame_with left top shape)
+    → IsShapeRead words (k + 3) shape → IsFrameRead name words k (frame_at left top shape)
 frame_read name words k left top shape named first second read = record {
   good = shape_of_frame name words k left top named first second ∙ read.good;
   told = frame_by words k left top shape first second read.told;

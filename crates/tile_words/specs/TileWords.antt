@@ -15,6 +15,7 @@ use Rattle.orders.specs.Options.{u16_in, positive_u16_in}
 use Rattle.orders.specs.Words.{word_at, at_fault, order_within, order_unless}
 use Rattle.tile_join.specs.declared.tiles.Frame.{Frame}
 use Rattle.tile_make.specs.Placed.{is_tile_place}
+use Rattle.tile_make.specs.TileOf.{frame_at}
 use Rattle.tile_words.specs.declared.words.TileOrder.{TileOrder}
 
 -- ---- the words in front of the order
@@ -23,14 +24,10 @@ use Rattle.tile_words.specs.declared.words.TileOrder.{TileOrder}
 unfoldable pub shape_told : List (List ℕ) → ℕ → Option Shape
 shape_told words k = option_and_then (λ width. option_and_then (plane_shape width) (positive_u16_in (word_at words (k + 1)))) (positive_u16_in (word_at words k))
 
--- the frame with its first pixel in this column of this row
-abbrev pub frame_with : ℕ → ℕ → Shape → Frame
-frame_with left top shape = record { left = left; top = top; shape = shape }
-
 -- the frame that the four words behind word k tell: the column and the row of its first pixel, its width and its height
 unfoldable pub frame_told : List (List ℕ) → ℕ → Option Frame
 frame_told words k =
-    option_and_then (λ left. option_and_then (λ top. option_map (frame_with left top) (shape_told words (k + 3))) (u16_in (word_at words (k + 2))))
+    option_and_then (λ left. option_and_then (λ top. option_map (frame_at left top) (shape_told words (k + 3))) (u16_in (word_at words (k + 2))))
     (u16_in (word_at words (k + 1)))
 
 -- of each of the two words that tell a shape, from word k on, whether it is at fault; the second one is, where they tell none

@@ -10,9 +10,10 @@ use Rattle.comp_tree.specs.Components.{tree_of}
 use Rattle.comp_tree.proofs.Exported.{shape-of, length-numbers}
 use Rattle.source_pick.specs.Catalogue.{catalogue, catalogue_of, cells_of, FitsColumns}
 use Rattle.source_pick.specs.Segmentation.{segmentation, segmentation_of}
+use Rattle.tile_join.specs.Tiles.{IsWritableRow}
 use Rattle.tile_make.specs.Placed.{window_of_place}
 use Rattle.tile_make.specs.TileOf.{frame_at, left_open, own_of}
-use Rattle.tile_make.specs.Told.{IsPlacedWell, IsStorableRow}
+use Rattle.tile_make.specs.Told.{IsPlacedWell}
 use Rattle.tile_make.proofs.Storing.{window_inside, core_inside, core_of, short_sides, small_numbers}
 use Rattle.tile_make.proofs.making.tell.Goals as goal
 
@@ -70,7 +71,7 @@ returns-clause-storable g c =
       map_length = c.in_ok-map.ensures.one_each ∙ ap (λ (x : ComponentTree). length x.node_of) tree ∙ length-numbers plane connect
           ∙ c.shape.ensures.pixels;
       small = small_numbers _ c.in_ok-map.ensures.few;
-      rows = All-weaker IsStorableRow FitsColumns (λ row k. k.columns) _ c.in_ok-rows.ensures.fit;
-      whole_rows = All-weaker IsStorableRow (λ row. All (FitsSigned w64) (cells_of row)) (λ row k. k.whole) _ c.in_ok-rows.ensures.fit;
+      rows = All-weaker IsWritableRow FitsColumns (λ row k. k.columns) _ c.in_ok-rows.ensures.fit;
+      whole_rows = All-weaker IsWritableRow (λ row. All (FitsSigned w64) (cells_of row)) (λ row k. k.whole) _ c.in_ok-rows.ensures.fit;
       few_rows = c.in_ok-rows.ensures.few;
     }

@@ -1,7 +1,7 @@
 use Rattle.std.proofs.Common.{◌≤◌, [], length, sym, ◌∙◌, ap, arith}
 use Rattle.std.proofs.lemmas.List.Elements.{All-nil, All-same}
 use Rattle.std.proofs.lemmas.Option.{slice_get-get_or}
-use Rattle.tile_make.specs.Told.{IsStorableRow}
+use Rattle.tile_join.specs.Tiles.{IsWritableRow}
 use Rattle.source_pick.proofs.Exported.{few_marked, few_rows}
 use Rattle.tile_make.proofs.Moving.{own_none, own_more, own_all}
 use Rattle.tile_make.proofs.rows.own_rows.Goals as goal
@@ -9,7 +9,7 @@ use Rattle.tile_make.proofs.rows.own_rows.Goals as goal
 pub loop-i-init : goal.loop-i-init
 loop-i-init c = (
   (λ plane connect is are. c.new-rows.ensures.items ∙ sym (own_none c.args.place.now c.args.tree.now.shape plane connect c.args.picked.now)),
-  All-same IsStorableRow c.new-rows.result.items [] c.new-rows.ensures.items (All-nil IsStorableRow),
+  All-same IsWritableRow c.new-rows.result.items [] c.new-rows.ensures.items (All-nil IsWritableRow),
   omega (arith, ap length c.new-rows.ensures.items),
 )
 

@@ -8,8 +8,9 @@ use Rattle.comp_tree.proofs.Exported.{length-rows, shape-of}
 use Rattle.source_pick.specs.declared.catalogue.CatRow.{CatRow}
 use Rattle.source_pick.specs.Catalogue.{catalogue_row, cells_of, moved_row}
 use Rattle.source_pick.proofs.Exported.{catalogue_row_fits}
+use Rattle.tile_join.specs.Tiles.{IsWritableRow}
 use Rattle.tile_make.specs.Placed.{window_of_place}
-use Rattle.tile_make.specs.Told.{FirstStandsIn, IsStorableRow}
+use Rattle.tile_make.specs.Told.{FirstStandsIn}
 use Rattle.tile_make.proofs.Moving.{first_stands, moved_fits, moved_whole}
 use Rattle.tile_make.proofs.rows.row_in_image.Goals as goal
 
@@ -46,4 +47,4 @@ returns-clause-fits c =
     let whole =
     subst (λ (x : CatRow). AllByRecursion (FitsSigned w64) (cells_of x)) (sym row_is)
     (catalogue_row_fits t.plane connect c.args.node c.args.number t.one_each t.in_range node c.requires.few).1 in
-    subst IsStorableRow (sym (c.in_image.ensures tree.shape)) (record { columns = columns; whole = moved_whole w c.row.result whole columns })
+    subst IsWritableRow (sym (c.in_image.ensures tree.shape)) (record { columns = columns; whole = moved_whole w c.row.result whole columns })
