@@ -69,7 +69,7 @@ def map_of_numbers(width: int, height: int, numbers: List[int]) -> bytes:
     return hdu_bytes(cards, struct.pack(f">{len(numbers)}i", *numbers))
 
 
-def table_bytes(columns: List[str], rows: List[Cells], name: str = "SOURCES") -> bytes:
+def table_bytes(columns: List[str], rows: List[Cells], table: str = "SOURCES") -> bytes:
     names, forms = zip(*(column.split(":") for column in columns))
     form = ">" + "".join({"J": "i", "K": "q"}[each] for each in forms)
     cards = [
@@ -82,7 +82,7 @@ def table_bytes(columns: List[str], rows: List[Cells], name: str = "SOURCES") ->
     cards += [("PCOUNT", 0), ("GCOUNT", 1), ("TFIELDS", len(columns))]
     for number, (name, each) in enumerate(zip(names, forms), 1):
         cards += [(f"TTYPE{number}", name), (f"TFORM{number}", each)]
-    return hdu_bytes([*cards, ("EXTNAME", name)], b"".join(struct.pack(form, *row) for row in rows))
+    return hdu_bytes([*cards, ("EXTNAME", table)], b"".join(struct.pack(form, *row) for row in rows))
 
 
 def detection_bytes(image: Image, sources: List[Node], columns: List[str], rows: List[Cells]) -> bytes:

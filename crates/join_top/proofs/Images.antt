@@ -1,5 +1,5 @@
 -- Tiles of one image: what is written of them is what detection writes of the image.
-use Rattle.std.proofs.Common.{◌≡◌, ◌∙◌, ℕ, List, [], ap, subst, sym, refl}
+use Rattle.std.proofs.Common.{◌≡◌, ◌∙◌, ℕ, List, ap, subst, sym}
 use Rattle.std.specs.List.{flat_map}
 use Rattle.comp_tree.specs.declared.shape.Shape.{Shape}
 use Rattle.comp_tree.specs.Raster.{Raster}
@@ -9,7 +9,6 @@ use Rattle.source_pick.specs.declared.catalogue.CatRow.{CatRow}
 use Rattle.source_pick.specs.Catalogue.{cells_of}
 use Rattle.tree_products.specs.Catalogues.{hdus, catalogue_cells, detected_hdus}
 use Rattle.tile_laws.specs.Pieces.{DetectionChoice, Piece, searched, detected, mapped, AnswersForCore}
-use Rattle.tile_join.specs.declared.tiles.Frame.{Frame}
 use Rattle.tile_join.specs.declared.tiles.TileCatalogue.{TileCatalogue}
 use Rattle.tile_join.specs.Tiles.{window_of, is_in_frame}
 use Rattle.tile_join.specs.Made.{own_rows, piece_of, IsTileMade}

@@ -1,6 +1,6 @@
 -- Tiles that are joined, and the bytes in which they stand.
-use Rattle.std.proofs.Common.{◌≡◌, ◌∙◌, ℕ, zero, suc, ◌+◌, ◌*◌, ◌<◌, ◌≤◌, List, [], ◌∷◌, ◌++◌, length, refl, sym, ap, subst, arith, ◌⊎◌, inl, inr, ℤ}
-use Rattle.std.specs.Prelude.{Some, None, slice_get, Result, Ok, Err, IfOk, IfErr}
+use Rattle.std.proofs.Common.{◌≡◌, ◌∙◌, ℕ, zero, suc, List, [], ◌∷◌, ◌++◌, length, refl, sym, ap, subst, arith, ◌⊎◌, inl, inr, ℤ}
+use Rattle.std.specs.Prelude.{Some, slice_get, Result, Ok, Err, IfOk, IfErr}
 use Rattle.std.specs.List.{All, flat_map}
 use Rattle.std.proofs.lemmas.Option.{none-some, same_Some}
 use Rattle.lemmas.proofs.Exported.{IsAmong}
@@ -16,7 +16,7 @@ use Rattle.tile_join.specs.Tiles.{IsWritableRow, rows_of_tiles, AreJoinable}
 use Rattle.tile_join.specs.Joins.{joined_rows, joined_map}
 use Rattle.tile_join.specs.Made.{IsTileMade, AreTilesMade}
 use Rattle.tile_file.specs.TileFiles.{bytes_of_tiles, IsTileFile}
-use Rattle.tile_file.specs.Laws.{AreSameTile, AreSameTiles, TileFilesAreToldApart}
+use Rattle.tile_file.specs.Laws.{AreSameTiles, TileFilesAreToldApart}
 use Rattle.join_top.specs.declared.ends.JoinRefusal.TheVariants.{NotTiles, Unjoinable}
 use Rattle.join_top.specs.declared.making.MakeStop.{MakeStop}
 use Rattle.join_top.specs.declared.making.MakeStop.TheVariants.{Refused, NoMemory}

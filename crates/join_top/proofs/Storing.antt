@@ -1,17 +1,15 @@
 -- What is joined can be written.
-use Rattle.std.proofs.Common.{◌≡◌, ◌∙◌, ℕ, ◌*◌, ◌+◌, ◌<◌, ◌≤◌, List, [], ◌∷◌, length, refl, subst, sym, arith, inl, inr, ℤ}
-use Rattle.std.specs.Prelude.{pos, map}
-use Rattle.std.specs.List.{All, AllByRecursion, flat_map, enumerate_from, range_with_len}
+use Rattle.std.proofs.Common.{◌≡◌, ◌∙◌, ℕ, ◌*◌, ◌≤◌, List, [], ◌∷◌, length, refl, subst, sym, arith, inl, inr}
+use Rattle.std.specs.List.{AllByRecursion, flat_map, enumerate_from}
 use Rattle.std.proofs.lemmas.Int.{ints}
 use Rattle.std.proofs.lemmas.List.{length-map}
 use Rattle.std.proofs.lemmas.List.FromFn.{length-enumerate_from, length-map-range_with_len}
 use Rattle.lemmas.proofs.Exported.{IsAmong, all_from_among}
 use Rattle.comp_tree.specs.declared.shape.Shape.{Shape}
-use Rattle.fits_write.specs.Columns.{IsTable}
 use Rattle.fits_write.specs.CatalogueColumns.{catalogue_columns}
 use Rattle.fits_write.proofs.Exported.{FitEach, catalogue_are_columns, rows_are_table}
 use Rattle.source_pick.specs.declared.catalogue.CatRow.{CatRow}
-use Rattle.source_pick.specs.Catalogue.{cells_of, FitsColumn, FitsColumns}
+use Rattle.source_pick.specs.Catalogue.{cells_of, FitsColumns}
 use Rattle.source_pick.proofs.Exported.{row_fits}
 use Rattle.tree_products.specs.Catalogues.{IsDetection}
 use Rattle.tile_laws.specs.Pieces.{numbered_rows, row_with_number}

@@ -4,7 +4,6 @@ use Rattle.std.specs.Io.KnownBytes.{Appends, Keeps}
 use Rattle.dev_io.specs.Causes.{Rose}
 use Rattle.dev_io.specs.Streams.{AppendsPrefix}
 use Rattle.command_line.specs.Notes.{Noted}
-use Rattle.comp_tree.specs.declared.shape.Shape.{Shape}
 use Rattle.comp_tree.specs.Raster.{Raster, IsPlane}
 use Rattle.orders.specs.declared.words.Usage.{Usage as AtFault}
 use Rattle.run_relation.specs.Headline.{InputUse, OutputUse, Took, TookAtMost, IsUnused}

@@ -1,10 +1,10 @@
 -- How many rows tiles give together, from which rows these are, and how large the numbers of the map are.
-use Rattle.std.proofs.Common.{◌≡◌, ◌∙◌, ℕ, ◌+◌, ◌*◌, ◌<◌, ◌≤◌, zero, suc, Bool, true, false, List, [], ◌∷◌, ◌++◌, length, refl, sym, ap, subst, arith, inl, inr}
-use Rattle.std.specs.Prelude.{IsTrue, ◌==◌, cond, filter, flat_map, map, Option, Some, None, slice_get, slice_index, unwrap_or}
-use Rattle.std.specs.List.{All, range_with_len, position_from, enumerate_from}
+use Rattle.std.proofs.Common.{◌≡◌, ℕ, ◌+◌, ◌*◌, ◌<◌, ◌≤◌, suc, Bool, true, false, List, [], ◌∷◌, length, refl, sym, subst, arith, inl, inr}
+use Rattle.std.specs.Prelude.{IsTrue, ◌==◌, cond, flat_map, map, Option, Some, None, slice_index, unwrap_or}
+use Rattle.std.specs.List.{range_with_len, position_from, enumerate_from}
 use Rattle.std.specs.Option.{option_map, option_to_list}
 use Rattle.std.proofs.lemmas.Bool.{eqb-true}
-use Rattle.lemmas.proofs.Exported.{IsAmong, IsRisingBy, among_from_filter, among_from_range, all_from_among}
+use Rattle.lemmas.proofs.Exported.{IsAmong, IsRisingBy, among_from_filter, among_from_range}
 use Rattle.comp_tree.specs.declared.shape.Shape.{Shape}
 use Rattle.source_pick.specs.declared.catalogue.CatRow.{CatRow}
 use Rattle.tile_laws.specs.Pieces.{first_pixel, numbered_rows, row_with_number}

@@ -1,6 +1,5 @@
 -- What is read of a window's image, and what is made of it.
 use Rattle.std.proofs.Common.{◌≡◌, ◌∙◌, ℕ, List, [], ◌∷◌, Bool, true, false, refl, sym, ap, subst, inl, inr, Some, None}
-use Rattle.std.specs.Prelude.{if◌then◌else◌}
 use Rattle.std.specs.declared.option.Option.{Option}
 use Rattle.std.proofs.lemmas.Option.{none-some}
 use Rattle.comp_tree.specs.Raster.{Raster}
@@ -8,7 +7,7 @@ use Rattle.pixel_plane.specs.declared.limits.Limits.{Limits}
 use Rattle.pixel_plane.specs.declared.input_fault.Fault.TheVariants.{ShapeDiffers}
 use Rattle.pixel_plane.specs.declared.image.Stop.{Stop}
 use Rattle.pixel_plane.specs.declared.image.Stop.TheVariants.{Refused, ReadFault, NoMemory}
-use Rattle.pixel_plane.specs.Verdicts.{Verdict, image, unfound, unreadable, truncated, out_of_range, verdict_on, taken_for}
+use Rattle.pixel_plane.specs.Verdicts.{Verdict, image, unfound, unreadable, truncated, out_of_range, verdict_on}
 use Rattle.pixel_plane.specs.Streams.{ImageRead, ImageStopped, memory_at_verdict, stop_of, TakesOneOf}
 use Rattle.run_relation.specs.declared.ends.End.TheVariants as at_end
 use Rattle.run_relation.specs.Headline.{Answer}

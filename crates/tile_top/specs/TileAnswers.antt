@@ -8,7 +8,7 @@ use Rattle.source_pick.specs.Segmentation.{segmentation}
 use Rattle.orders.specs.declared.words.Usage.{Usage as AtFault}
 use Rattle.pixel_plane.specs.declared.limits.Limits.{Limits}
 use Rattle.pixel_plane.specs.declared.input_fault.Fault.TheVariants.{ShapeDiffers}
-use Rattle.pixel_plane.specs.Verdicts.{Verdict, image, unfound, unreadable, truncated, out_of_range, verdict_on, taken_for}
+use Rattle.pixel_plane.specs.Verdicts.{Verdict, image, verdict_on, taken_for}
 use Rattle.pixel_plane.specs.Streams.{stop_of, memory_at_verdict}
 use Rattle.run_relation.specs.declared.ends.End.TheVariants.{Done, Refused}
 use Rattle.run_relation.specs.Answers.{end_of}

@@ -25,12 +25,25 @@ struct Outcome {
     notes: Vec<u8>,
 }
 
+// Fills the last piece of this size with spaces.
+fn fill(bytes: &mut Vec<u8>, size: usize) -> Result<(), Fail> {
+    for _ in 0..BLOCK {
+        if size == 0 || bytes.len() % size == 0 {
+            return Ok(());
+        }
+        bytes.push(b' ')?;
+    }
+    Ok(())
+}
+
 // The file of the window.
 fn window(alloc: Global) -> Result<Vec<u8>, Fail> {
-    let mut bytes = vec![in alloc; b' '; BLOCK]?;
-    for (number, card) in CARDS.iter().enumerate() {
-        bytes[80 * number..80 * number + card.len()].copy_from_slice(card);
+    let mut bytes = Vec::new(alloc);
+    for card in CARDS {
+        bytes.extend_from_slice(card)?;
+        fill(&mut bytes, 80)?;
     }
+    fill(&mut bytes, BLOCK)?;
     bytes.extend_from_slice(&[0, 0, 5, 5, 0, 5])?;
     Ok(bytes)
 }

@@ -22,7 +22,7 @@ pub struct TileOrder {
     pub place: TilePlace,
     /// The window's columns and rows: its image has to have this shape.
     pub window: Shape,
-    /// How its sources are choice_of_job: its job is to detect them.
+    /// What is asked of the background, neighbours, strips and workers: its job is to detect.
     pub order: Order,
     /// What its job asks of a source.
     pub choice: Choice,

@@ -7,33 +7,51 @@ use std::test::Fail;
 use std::thread::Threads;
 use strip_crew::OpenGate;
 
-// A file with one row of three pixels, or as many as this digit says.
-fn file(alloc: Global, width: u8, pixels: &[u8]) -> Result<Vec<u8>, Fail> {
+// What came of a run.
+#[derive(Drop)]
+struct Outcome {
+    status: u8,
+    output: Vec<u8>,
+    notes: Vec<u8>,
+}
+
+// Fills the last piece of this size with spaces.
+fn fill(bytes: &mut Vec<u8>, size: usize) -> Result<(), Fail> {
+    for _ in 0..BLOCK {
+        if size == 0 || bytes.len() % size == 0 {
+            return Ok(());
+        }
+        bytes.push(b' ')?;
+    }
+    Ok(())
+}
+
+// A file with one row of pixels, as many as this card says.
+fn file(alloc: Global, width: &[u8], pixels: &[u8]) -> Result<Vec<u8>, Fail> {
     let cards: [&[u8]; 6] = [
         b"SIMPLE  = T",
         b"BITPIX  = 8",
         b"NAXIS   = 2",
-        &[
-            b'N', b'A', b'X', b'I', b'S', b'1', b' ', b' ', b'=', b' ', width,
-        ],
+        width,
         b"NAXIS2  = 1",
         b"END",
     ];
-    let mut bytes = vec![in alloc; b' '; BLOCK]?;
-    for (number, card) in cards.iter().enumerate() {
-        bytes[80 * number..80 * number + card.len()].copy_from_slice(card);
+    let mut bytes = Vec::new(alloc);
+    for card in cards {
+        bytes.extend_from_slice(card)?;
+        fill(&mut bytes, 80)?;
     }
+    fill(&mut bytes, BLOCK)?;
     bytes.extend_from_slice(pixels)?;
     Ok(bytes)
 }
 
-// What a run writes that ends well.
-fn output_of<R: Threads + Sync>(
+fn run<R: Threads + Sync>(
     rt: &R,
     alloc: Global,
     words: &[&str],
     bytes: &[u8],
-) -> Result<Vec<u8>, Fail> {
+) -> Result<Outcome, Fail> {
     let mut input = MemSource::new(bytes, 1000, &[]);
     let mut output = MemSink::new(vec![in alloc; 0; 8 * BLOCK]?, &[], 0);
     let mut notes = MemSink::new(vec![in alloc; 0; 99]?, &[], 0);
@@ -47,61 +65,85 @@ fn output_of<R: Threads + Sync>(
         &mut notes,
         &OpenGate,
     );
-    if status == 0 {
-        Ok(output.bytes().to_vec(alloc)?)
-    } else {
-        Err("a run that ends well".into())
-    }
+    Ok(Outcome {
+        status,
+        output: output.bytes().to_vec(alloc)?,
+        notes: notes.bytes().to_vec(alloc)?,
+    })
 }
 
-// Each window shows two pixels, of which one is its core with the other's neighbour; the second tile stands first.
+// The tile of the first pixel, from the window of the first two.
+fn first_tile<R: Threads + Sync>(rt: &R, alloc: Global) -> Result<Outcome, Fail> {
+    let words = [
+        "tile",
+        "--whole",
+        "3",
+        "1",
+        "--window",
+        "0",
+        "0",
+        "2",
+        "1",
+        "--core",
+        "0",
+        "0",
+        "1",
+        "1",
+        "detect",
+        "--threshold",
+        "3",
+    ];
+    run(rt, alloc, &words, &file(alloc, b"NAXIS1  = 2", &[5, 0])?)
+}
+
+// The tile of the two others, from their own window.
+fn second_tile<R: Threads + Sync>(rt: &R, alloc: Global) -> Result<Outcome, Fail> {
+    let words = [
+        "tile",
+        "--whole",
+        "3",
+        "1",
+        "--window",
+        "1",
+        "0",
+        "2",
+        "1",
+        "--core",
+        "1",
+        "0",
+        "2",
+        "1",
+        "detect",
+        "--threshold",
+        "3",
+    ];
+    run(rt, alloc, &words, &file(alloc, b"NAXIS1  = 2", &[0, 5])?)
+}
+
 #[test]
 fn tiles_that_are_joined_are_the_whole(rt: HostRuntime) -> Result<(), Fail> {
     let alloc = rt.alloc();
-    let first = [
-        "tile",
-        "--whole",
-        "3",
-        "1",
-        "--window",
-        "0",
-        "0",
-        "2",
-        "1",
-        "--core",
-        "0",
-        "0",
-        "1",
-        "1",
-        "detect",
-        "--threshold",
-        "3",
-    ];
-    let second = [
-        "tile",
-        "--whole",
-        "3",
-        "1",
-        "--window",
-        "1",
-        "0",
-        "2",
-        "1",
-        "--core",
-        "1",
-        "0",
-        "2",
-        "1",
-        "detect",
-        "--threshold",
-        "3",
-    ];
-    let mut tiles = output_of(&rt, alloc, &second, &file(alloc, b'2', &[0, 5])?)?;
-    let other = output_of(&rt, alloc, &first, &file(alloc, b'2', &[5, 0])?)?;
-    tiles.extend_from_slice(&other)?;
-    let joined = output_of(&rt, alloc, &["join"], &tiles)?;
-    let whole = file(alloc, b'3', &[5, 0, 5])?;
-    let detected = output_of(&rt, alloc, &["detect", "--threshold", "3"], &whole)?;
-    assert_eq!(rt; joined, detected);
+    let mut tiles = second_tile(&rt, alloc)?.output;
+    tiles.extend_from_slice(&first_tile(&rt, alloc)?.output)?;
+    let joined = run(&rt, alloc, &["join"], &tiles)?;
+    assert_eq!(rt; joined.status, 0);
+    let whole = file(alloc, b"NAXIS1  = 3", &[5, 0, 5])?;
+    let detected = run(&rt, alloc, &["detect", "--threshold", "3"], &whole)?;
+    assert_eq!(rt; detected.status, 0);
+    assert!(rt; joined.output.as_slice() == detected.output.as_slice());
+    Ok(())
+}
+
+#[test]
+fn a_tile_alone_leaves_a_gap(rt: HostRuntime) -> Result<(), Fail> {
+    let alloc = rt.alloc();
+    let tile = first_tile(&rt, alloc)?.output;
+    let joined = run(&rt, alloc, &["join"], &tile)?;
+    assert_eq!(rt; joined.status, 2);
+    assert_eq!(rt;
+        joined.notes.as_slice(),
+        b"refused: 34 CoreGap pixel 1\n".as_slice()
+    );
+    assert!(rt; joined.output.is_empty());
     Ok(())
 }

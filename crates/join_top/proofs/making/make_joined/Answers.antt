@@ -1,10 +1,9 @@
-use Rattle.std.proofs.Common.{rules, ◌≡◌, ℕ, List, length, subst}
+use Rattle.std.proofs.Common.{rules, ◌≡◌, List, length, subst}
 use Rattle.std.specs.Prelude.{IfOk, IfErr}
 use Rattle.std.specs.List.{All}
 use Rattle.tree_products.specs.declared.detection.Detection.{Detection}
 use Rattle.tile_join.specs.declared.tiles.TileCatalogue.{TileCatalogue}
 use Rattle.tile_file.specs.TileFiles.{bytes_of_tiles, IsTileFile}
-use Rattle.join_top.specs.Joinings.{AreTilesIn}
 use Rattle.join_top.specs.Making.{IsWholeOf, IsJoinedDetection, IsStopOfTiles}
 use Rattle.join_top.proofs.Joined.{no_tiles_in, tiles_in, output_of_tiles, image_of_tiles, writable_of_tiles, stop_of_tiles}
 use Rattle.join_top.proofs.making.make_joined.Goals as goal

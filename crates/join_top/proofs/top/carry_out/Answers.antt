@@ -1,10 +1,6 @@
-use Rattle.std.proofs.Common.{◌≡◌, ◌∙◌, ℕ, List, length, sym, subst}
-use Rattle.std.proofs.lemmas.Option.{same_Some}
-use Rattle.dev_io.specs.Streams.{Takes}
+use Rattle.std.proofs.Common.{◌∙◌, ℕ, List, subst}
 use Rattle.tree_products.specs.Catalogues.{hdus}
-use Rattle.run_relation.specs.Headline.{Took}
 use Rattle.join_top.specs.declared.making.MakeStop.{MakeStop}
-use Rattle.join_top.specs.AllBytes.{IsAllRead}
 use Rattle.join_top.specs.Joinings.{IsJoinedOutput, IsRefusalOf}
 use Rattle.join_top.specs.Making.{IsMakeStopOf}
 use Rattle.join_top.proofs.Ending.{all_taken, image_of_all}
