@@ -1,7 +1,7 @@
 -- Bands of whole rows: where their rows stand, what is known of their values, and bands that are lessened row by row.
-use Rattle.std.proofs.Common.{◌≡◌, ℕ, ◌+◌, ◌-◌, ◌*◌, ◌/◌, ◌%◌, ◌<◌, ◌≤◌, min, Bool, true, false, List, length, ◌++◌, refl, sym, ap, subst, ◌∙◌, arith}
+use Rattle.std.proofs.Common.{◌≡◌, ℕ, ◌+◌, ◌-◌, ◌*◌, ◌/◌, ◌%◌, ◌<◌, ◌≤◌, ◌^◌, min, Bool, true, false, List, length, ◌++◌, refl, sym, ap, subst, ◌∙◌, arith}
 use Rattle.std.proofs.Common.{◌⊎◌, inl, inr}
-use Rattle.std.specs.Prelude.{ℤ, pos, ◌-ℤ◌, All, Option, Some, None, unwrap_or}
+use Rattle.std.specs.Prelude.{ℤ, pos, ◌-ℤ◌, All, Option, Some, None, unwrap_or, IfSome}
 use Rattle.std.specs.Option.{option_map}
 use Rattle.std.specs.Fork.{IsChunk}
 use Rattle.std.proofs.Math.Nat.{mul_comm, mul-sub, mul-mod_left, mul-le-mul_right}
@@ -10,10 +10,11 @@ use Rattle.std.proofs.lemmas.List.{length-append, get_or_append_left, get_or-app
 use Rattle.std.proofs.lemmas.Nat.{div-add-mod', div_below, div-mul-add}
 use Rattle.std.proofs.lemmas.Option.{unwrap_or-slice_get}
 use Rattle.comp_tree.specs.declared.shape.Shape.{Shape}
-use Rattle.comp_tree.specs.Limits.{IsWithin, IsInHalfRange, value_bound, half_bound}
-use Rattle.comp_tree.proofs.Exported.{half_twice, within_half, within_more}
+use Rattle.comp_tree.specs.Limits.{IsWithin, IsInHalfRange, IsWithinRange, value_bound, half_bound}
+use Rattle.comp_tree.proofs.Exported.{half_most, half_twice, some_within, within_half, within_more}
 use Rattle.comp_tree.specs.Raster.{Raster, IsPlane, HasValuesInHalfRange, HasValuesWithin, value_at}
 use Rattle.mesh_background.specs.Mesh.{mesh_cell_of}
+use Rattle.mesh_background.specs.Laws.{IsNumberInHalfRange}
 use Rattle.mesh_background.specs.Lessened.{numbers_under, number_of_cell, level_of, AreNumbers, IsInHalfRangeFrom, IsBand, IsLessened}
 use Rattle.mesh_background.proofs.Levels.{within-zero}
 use Rattle.mesh_background.proofs.Residuals.{half-of, within-of, within-pixel_level, within-values, within-smooth, length-values, length-smooth, within_twice}
@@ -210,37 +211,38 @@ band-done old new by width n rows is h =
 -- ---- the bands of a plane
 
 -- what is known of the numbers
-pub numbers-known : (r : Raster) (own : Shape) (mesh : ℕ) (flat : Bool) (numbers : List ℤ) → own ≡ r.shape → HasValuesInHalfRange r.values
-    → numbers ≡ numbers_under r mesh flat → AreNumbers mesh own numbers
-numbers-known r own mesh flat numbers same h is =
+pub numbers-known : (empty : Option ℤ) (r : Raster) (own : Shape) (mesh : ℕ) (flat : Bool) (numbers : List ℤ) → own ≡ r.shape → HasValuesInHalfRange r.values
+    → IsNumberInHalfRange empty r → numbers ≡ numbers_under empty r mesh flat → AreNumbers mesh own numbers
+numbers-known empty r own mesh flat numbers same h given is =
     subst (λ (s : Shape). AreNumbers mesh s numbers) (sym same) (subst (λ (ns : List ℤ). AreNumbers mesh r.shape ns) (sym is) (go flat))
   where
     weaker : (xs : List ℤ) → All (IsWithin (half_bound (length r.values))) xs → All IsInHalfRange xs
     weaker xs all k d lt = within_half (length r.values) _ (all k d lt)
 
-    go : (f : Bool) → AreNumbers mesh r.shape (numbers_under r mesh f)
-    go true = record { one_each = length-values r mesh; in_range = weaker _ (within-values (half_bound (length r.values)) r mesh h.each) }
-    go false = record { one_each = length-smooth r mesh; in_range = weaker _ (within-smooth (half_bound (length r.values)) r mesh h.each) }
+    go : (f : Bool) → AreNumbers mesh r.shape (numbers_under empty r mesh f)
+    go true = record { one_each = length-values empty r mesh; in_range = weaker _ (within-values empty (half_bound (length r.values)) r mesh h.each given) }
+    go false = record { one_each = length-smooth empty r mesh; in_range = weaker _ (within-smooth empty (half_bound (length r.values)) r mesh h.each given) }
 
 -- the numbers are within the bound of the plane's values
-numbers-within : (b : ℕ) (r : Raster) (mesh : ℕ) (flat : Bool) (numbers : List ℤ) → HasValuesWithin b r.values → numbers ≡ numbers_under r mesh flat
+numbers-within : (empty : Option ℤ) (b : ℕ) (r : Raster) (mesh : ℕ) (flat : Bool) (numbers : List ℤ) → HasValuesWithin b r.values
+    → IfSome empty (λ v. IsWithin b v) → numbers ≡ numbers_under empty r mesh flat
     → All (IsWithin b) numbers
-numbers-within b r mesh flat numbers h is = subst (λ (ns : List ℤ). All (IsWithin b) ns) (sym is) (go flat)
+numbers-within empty b r mesh flat numbers h given is = subst (λ (ns : List ℤ). All (IsWithin b) ns) (sym is) (go flat)
   where
-    go : (f : Bool) → All (IsWithin b) (numbers_under r mesh f)
-    go true = within-values b r mesh h
-    go false = within-smooth b r mesh h
+    go : (f : Bool) → All (IsWithin b) (numbers_under empty r mesh f)
+    go true = within-values empty b r mesh h given
+    go false = within-smooth empty b r mesh h given
 
 -- what a band leaves is within a bound, where the values are within half of it
-pub band-within : (most : ℕ) (r : Raster) (mesh : ℕ) (own : Shape) (flat : Bool) (numbers : List ℤ) (size start : ℕ) (band after : List (Option ℤ)) → 0 < mesh
-    → HasValuesWithin (most / 2) r.values → numbers ≡ numbers_under r mesh flat → IsChunk r.values size start band
+pub band-within : (empty : Option ℤ) (most : ℕ) (r : Raster) (mesh : ℕ) (own : Shape) (flat : Bool) (numbers : List ℤ) (size start : ℕ) (band after : List (Option ℤ)) → 0 < mesh
+    → HasValuesWithin (most / 2) r.values → IfSome empty (λ v. IsWithin (most / 2) v) → numbers ≡ numbers_under empty r mesh flat → IsChunk r.values size start band
     → IsLessened band (λ k. level_of flat mesh own numbers (start + k)) 0 (length band) after
     → HasValuesWithin most after
-band-within most r mesh own flat numbers size start band after some h is chunk less p v e =
+band-within empty most r mesh own flat numbers size start band after some h given is chunk less p v e =
     within_more (most / 2 + most / 2) most v (omega arith)
     (lessened-within (most / 2) band after (λ k. level_of flat mesh own numbers (start + k))
     (λ k w lt f. within-of (most / 2) r (start + k) w h (sym (chunk.elements k None lt) ∙ f))
-    (λ k. within-level_of (most / 2) flat mesh own numbers (start + k) some (numbers-within (most / 2) r mesh flat numbers h is)) less p v e)
+    (λ k. within-level_of (most / 2) flat mesh own numbers (start + k) some (numbers-within empty (most / 2) r mesh flat numbers h given is)) less p v e)
 
 -- values within one of two bounds, and within half of the other, are within half of the least of twice the first and the second
 pub half-of_least : (own range : ℕ) (values : List (Option ℤ)) → HasValuesWithin own values → range ≡ value_bound (length values)
@@ -253,6 +255,31 @@ half-of_least own range values within is half p v e = go (cases_lt (own * 2) ran
     go : (own * 2 < range) ⊎ (range ≤ own * 2) → IsWithin (min (own * 2) range / 2) v
     go (inl lt) = within_more own _ v (omega (arith, lt)) (within p v e)
     go (inr le) = within_more (half_bound (length values)) _ v (omega (arith, le, is, twice)) (half.each p v e)
+
+-- and so is a number
+pub half-of_given : (own range count : ℕ) (given : Option ℤ) → IfSome given (λ v. IsWithin own v) → range ≡ value_bound count
+    → IfSome given (λ v. IsWithin (half_bound count) v) → IfSome given (λ v. IsWithin (min (own * 2) range / 2) v)
+half-of_given own range count None within is half = tt
+half-of_given own range count (Some v) within is half = go (cases_lt (own * 2) range)
+  where
+    twice : half_bound count + half_bound count ≡ value_bound count
+    twice = half_twice count
+
+    go : (own * 2 < range) ⊎ (range ≤ own * 2) → IsWithin (min (own * 2) range / 2) v
+    go (inl lt) = within_more own _ v (omega (arith, lt)) within
+    go (inr le) = within_more (half_bound count) _ v (omega (arith, le, is, twice)) half
+
+-- a number within half of the range is in it, and within the bound of values
+pub given-in_range : (count : ℕ) (given : Option ℤ) → IfSome given (λ v. IsWithin (half_bound count) v) → IfSome given (λ v. IsWithinRange v)
+given-in_range count given h =
+    let least : half_bound count ≤ 2 ^ 36 = half_most count in
+    let wider : 2 ^ 36 ≤ 2 ^ 37 = omega arith in
+    some_within (half_bound count) (2 ^ 37) given (omega (arith, least, wider)) h
+
+pub given-bounded : (count : ℕ) (given : Option ℤ) → IfSome given (λ v. IsWithin (half_bound count) v) → IfSome given (λ v. IsWithin (value_bound count) v)
+given-bounded count given h =
+    let twice : half_bound count + half_bound count ≡ value_bound count = half_twice count in
+    some_within (half_bound count) (value_bound count) given (omega (arith, twice)) h
 
 -- a pixel of a plane, which stands in one of its bands
 pub pixel-lessened : (old new band after : List (Option ℤ)) (own shape : Shape) (mesh : ℕ) (flat : Bool) (numbers : List ℤ) (start offset p : ℕ) → own ≡ shape

@@ -9,7 +9,7 @@ use Rattle.std.proofs.Math.Nat.{mul-le-mul_right}
 use Rattle.comp_tree.specs.Raster.{Raster, IsPlane, pixels, value_at, is_defined, level}
 use Rattle.mesh_background.specs.Medians.{lower_median}
 use Rattle.mesh_background.specs.Bounds.{IsCell}
-use Rattle.mesh_background.specs.Mesh.{cell_count, defined_values, cell_pixels, image_value, mesh_value, values_of_mesh}
+use Rattle.mesh_background.specs.Mesh.{cell_count, defined_values, cell_pixels, image_value, empty_value, mesh_value, values_of_mesh}
 use Rattle.mesh_background.proofs.Extents.{range-append, pixels_before, before-start, before-row, before-end, pixels_of_cell}
 
 pub defined-append : (r : Raster) (ps qs : List ℕ) → defined_values r (ps ++ qs) ≡ defined_values r ps ++ defined_values r qs
@@ -125,16 +125,16 @@ same_fill [] a b h = refl
 same_fill (None ∷ xs) a b h = ap (λ (z : ℤ). z ∷ map (λ m. unwrap_or m a) xs) (h 0 refl) ∙ ap (λ (ys : List ℤ). b ∷ ys) (same_fill xs a b (λ k e. h (suc k) e))
 same_fill (Some v ∷ xs) a b h = ap (λ (ys : List ℤ). v ∷ ys) (same_fill xs a b (λ k e. h (suc k) e))
 
-fill-map : (r : Raster) (mesh : ℕ) (ks : List ℕ)
-    → map (λ m. unwrap_or m (image_value r)) (map (λ k. lower_median (defined_values r (cell_pixels r mesh k))) ks) ≡ map (mesh_value r mesh) ks
+fill-map : (empty : Option ℤ) (r : Raster) (mesh : ℕ) (ks : List ℕ)
+    → map (λ m. unwrap_or m (empty_value empty r)) (map (λ k. lower_median (defined_values r (cell_pixels r mesh k))) ks) ≡ map (mesh_value empty r mesh) ks
 unfolding mesh_value
-fill-map r mesh [] = refl
-fill-map r mesh (k ∷ ks) = ap (λ (ys : List ℤ). mesh_value r mesh k ∷ ys) (fill-map r mesh ks)
+fill-map empty r mesh [] = refl
+fill-map empty r mesh (k ∷ ks) = ap (λ (ys : List ℤ). mesh_value empty r mesh k ∷ ys) (fill-map empty r mesh ks)
 
-pub filled-is : (r : Raster) (mesh : ℕ) (medians : List (Option ℤ)) (value : ℤ) (items : List ℤ)
+pub filled-is : (empty : Option ℤ) (r : Raster) (mesh : ℕ) (medians : List (Option ℤ)) (value : ℤ) (items : List ℤ)
     → medians ≡ map (λ k. lower_median (defined_values r (cell_pixels r mesh k))) (range_with_len 0 (cell_count mesh r.shape))
-    → ((k : ℕ) → slice_get medians k ≡ Some None → value ≡ image_value r) → items ≡ map (λ m. unwrap_or m value) medians → items ≡ values_of_mesh r mesh
+    → ((k : ℕ) → slice_get medians k ≡ Some None → value ≡ empty_value empty r) → items ≡ map (λ m. unwrap_or m value) medians → items ≡ values_of_mesh empty r mesh
 unfolding values_of_mesh
-filled-is r mesh medians value items are otherwise is =
-    is ∙ same_fill medians value (image_value r) otherwise ∙ ap (map (λ m. unwrap_or m (image_value r))) are
-    ∙ fill-map r mesh (range_with_len 0 (cell_count mesh r.shape))
+filled-is empty r mesh medians value items are otherwise is =
+    is ∙ same_fill medians value (empty_value empty r) otherwise ∙ ap (map (λ m. unwrap_or m (empty_value empty r))) are
+    ∙ fill-map empty r mesh (range_with_len 0 (cell_count mesh r.shape))

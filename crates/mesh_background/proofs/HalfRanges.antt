@@ -31,6 +31,14 @@ half_least count = go (nat_le count (2 ^ 24))
     go true = omega arith
     go false = omega arith
 
+-- so each number that is so small is within it
+pub half_range-small : (count : ℕ) (v : ℤ) → IsWithin (2 ^ 29) v → IsWithin (half_bound count) v
+half_range-small count v h = within_more (2 ^ 29) (half_bound count) v (half_least count) h
+
+pub half_range-given : (count : ℕ) (given : Option ℤ) → IfSome given (λ v. IsWithin (2 ^ 29) v) → IfSome given (λ v. IsWithin (half_bound count) v)
+half_range-given count None h = tt
+half_range-given count (Some v) h = half_range-small count v h
+
 -- the plane has these values
 pub half_range-of : (shape : Shape) (values : List (Option ℤ)) (r : Raster) → raster_of shape values ≡ Some r → HasValuesWithin (2 ^ 29) values
     → HasValuesInHalfRange r.values

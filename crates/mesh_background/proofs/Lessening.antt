@@ -15,7 +15,7 @@ use Rattle.comp_tree.specs.Limits.{IsInHalfRange}
 use Rattle.comp_tree.specs.Writing.{IsWritten}
 use Rattle.mesh_background.specs.Lessened.{numbers_under, number_of_cell, level_of, IsInHalfRangeFrom, IsLessened}
 use Rattle.mesh_background.specs.Interpolation.{interpolated}
-use Rattle.mesh_background.specs.Residuals.{pixel_level, background, residual_at, residual_of}
+use Rattle.mesh_background.specs.Residuals.{pixel_level, background, residual_at, residual_with}
 use Rattle.mesh_background.specs.declared.slope.Mixed.{Mixed}
 use Rattle.mesh_background.specs.Slopes.{steps_on, first_before}
 use Rattle.mesh_background.proofs.Slopes.{IsRun, run-level, run-along, runs-rise}
@@ -150,38 +150,38 @@ unfolding mesh_cell_of
 cell-inside mesh width height p some wide lt =
     cell-below mesh width height (p % width) (p / width) some (mod_below p width wide) (div_below p width height wide (omega (arith, mul_comm width height)))
 
-lessened-at : (r : Raster) (mesh p : ℕ) (numbers : List ℤ) → 0 < mesh → numbers ≡ values_of_mesh r mesh
+lessened-at : (empty : Option ℤ) (r : Raster) (mesh p : ℕ) (numbers : List ℤ) → 0 < mesh → numbers ≡ values_of_mesh empty r mesh
     → mesh_cell_of mesh r.shape.width p < cell_count mesh r.shape
-    → number_of_cell mesh r.shape.width numbers p ≡ background r mesh true p
+    → number_of_cell mesh r.shape.width numbers p ≡ background empty r mesh true p
 unfolding values_of_mesh
-lessened-at r mesh p numbers some is lt =
+lessened-at empty r mesh p numbers some is lt =
     ap (λ (vs : List ℤ). get_or vs (mesh_cell_of mesh r.shape.width p) (pos 0)) is
-    ∙ get_or-map-range_with_len (mesh_value r mesh) 0 (cell_count mesh r.shape) (mesh_cell_of mesh r.shape.width p) (mesh_cell_of mesh r.shape.width p) (pos 0)
+    ∙ get_or-map-range_with_len (mesh_value empty r mesh) 0 (cell_count mesh r.shape) (mesh_cell_of mesh r.shape.width p) (mesh_cell_of mesh r.shape.width p) (pos 0)
     lt (omega arith)
-    ∙ sym (background-flat r mesh p some)
+    ∙ sym (background-flat empty r mesh p some)
 
 -- the level that the code takes from a pixel is its background
-pub level-is : (r : Raster) (mesh : ℕ) (flat : Bool) (numbers : List ℤ) (p : ℕ) → 0 < mesh → 0 < r.shape.width → IsPlane r
-    → numbers ≡ numbers_under r mesh flat → p < length r.values → level_of flat mesh r.shape numbers p ≡ background r mesh flat p
-level-is r mesh true numbers p some wide plane is lt =
-    lessened-at r mesh p numbers some is (cell-inside mesh r.shape.width r.shape.height p some wide (omega (arith, plane, lt)))
-level-is r mesh false numbers p some wide plane is lt =
-    ap (λ (vs : List ℤ). pixel_level mesh r.shape vs p) is ∙ sym (background-smooth r mesh p some)
+pub level-is : (empty : Option ℤ) (r : Raster) (mesh : ℕ) (flat : Bool) (numbers : List ℤ) (p : ℕ) → 0 < mesh → 0 < r.shape.width → IsPlane r
+    → numbers ≡ numbers_under empty r mesh flat → p < length r.values → level_of flat mesh r.shape numbers p ≡ background empty r mesh flat p
+level-is empty r mesh true numbers p some wide plane is lt =
+    lessened-at empty r mesh p numbers some is (cell-inside mesh r.shape.width r.shape.height p some wide (omega (arith, plane, lt)))
+level-is empty r mesh false numbers p some wide plane is lt =
+    ap (λ (vs : List ℤ). pixel_level mesh r.shape vs p) is ∙ sym (background-smooth empty r mesh p some)
 
 -- a plane whose pixels are all less by their background
-pub lessened-all : (r new : Raster) (mesh : ℕ) (flat : Bool) (numbers : List ℤ) → 0 < mesh → 0 < r.shape.width → IsPlane r
-    → numbers ≡ numbers_under r mesh flat → new.shape ≡ r.shape → length new.values ≡ length r.values
+pub lessened-all : (empty : Option ℤ) (r new : Raster) (mesh : ℕ) (flat : Bool) (numbers : List ℤ) → 0 < mesh → 0 < r.shape.width → IsPlane r
+    → numbers ≡ numbers_under empty r mesh flat → new.shape ≡ r.shape → length new.values ≡ length r.values
     → ((p : ℕ) → p < length r.values
     → value_at new.values p ≡ option_map (λ v. v -ℤ level_of flat mesh r.shape numbers p) (value_at r.values p))
-    → new ≡ residual_of r mesh flat
+    → new ≡ residual_with empty r mesh flat
 unfolding residual_at
-lessened-all r new mesh flat numbers some wide plane is same one_each each =
-    residual-all r new mesh flat (length r.values) written (omega arith)
+lessened-all empty r new mesh flat numbers some wide plane is same one_each each =
+    residual-all empty r new mesh flat (length r.values) written (omega arith)
   where
-    written : IsWritten r (residual_at r mesh flat) (length r.values) new
+    written : IsWritten r (residual_at empty r mesh flat) (length r.values) new
     written = record {
       shape_is = same;
       one_each = one_each;
       written = λ p lt. each p lt
-          ∙ ap (λ (z : ℤ). option_map (λ v. v -ℤ z) (value_at r.values p)) (level-is r mesh flat numbers p some wide plane is lt);
+          ∙ ap (λ (z : ℤ). option_map (λ v. v -ℤ z) (value_at r.values p)) (level-is empty r mesh flat numbers p some wide plane is lt);
     }

@@ -21,7 +21,7 @@ use Rattle.mesh_background.specs.Medians.{lower_median}
 use Rattle.mesh_background.specs.Mesh.{cells_along, cell_count, mesh_cell_of, cell_pixels, defined_values, image_value, mesh_value, values_of_mesh}
 use Rattle.mesh_background.specs.Smoothing.{number_in_grid, places_around, numbers_around, filtered_number, filtered_mesh}
 use Rattle.mesh_background.specs.Interpolation.{past_centre, cell_before, cell_after, part_way, down_column, interpolated}
-use Rattle.mesh_background.specs.Residuals.{filtered_values, pixel_level, background, residual_at, residual_of}
+use Rattle.mesh_background.specs.Residuals.{filtered_values, pixel_level, background, residual_at, residual_with}
 use Rattle.mesh_background.specs.Windows.{IsWholeCell, IsNeeded, IsClearAlong, IsOnMesh, IsClear, BackgroundIsSeen, ResidualIsSeen, ResidualIsShown}
 use Rattle.mesh_background.specs.Windows.{ClearIsToldFromTheWindow}
 use Rattle.mesh_background.proofs.Extents.{along-above}
@@ -270,20 +270,26 @@ some_values r ps p m d =
     (not_empty (filter (is_defined r) ps) p (among-filter (is_defined r) p ps m d))
 
 module _ (r : Raster) (w : Window) (mesh : ℕ) (plane : IsPlane r) (inside : IsInside r.shape w) (some : 0 < mesh) (on : IsOnMesh mesh w) where
-  -- the number of a cell that has a defined pixel
-  number_same : (c d : ℕ) → c < cells_along mesh w.shape.width → d < cells_along mesh w.shape.height
+  -- the number of a cell, which has a defined pixel where none is given for the others
+  number_same : (empty : Option ℤ) (c d : ℕ) → c < cells_along mesh w.shape.width → d < cells_along mesh w.shape.height
       → IsWholeCell mesh w.left w.shape.width r.shape.width (c + w.left / mesh)
       → IsWholeCell mesh w.top w.shape.height r.shape.height (d + w.top / mesh)
-      → (a : ℕ) × IsTrue (is_defined r a) × (mesh_cell_of mesh r.shape.width a ≡ (d + w.top / mesh) * cells_along mesh r.shape.width + (c + w.left / mesh))
-      → mesh_value (seen_through w r) mesh (d * cells_along mesh w.shape.width + c)
-      ≡ mesh_value r mesh ((d + w.top / mesh) * cells_along mesh r.shape.width + (c + w.left / mesh))
+      → (empty ≡ None
+      → (a : ℕ) × IsTrue (is_defined r a) × (mesh_cell_of mesh r.shape.width a ≡ (d + w.top / mesh) * cells_along mesh r.shape.width + (c + w.left / mesh)))
+      → mesh_value empty (seen_through w r) mesh (d * cells_along mesh w.shape.width + c)
+      ≡ mesh_value empty r mesh ((d + w.top / mesh) * cells_along mesh r.shape.width + (c + w.left / mesh))
   unfolding mesh_value
-  number_same c d cl dl wc wd a =
+  number_same (Some v) c d cl dl wc wd has =
+      ap (λ (xs : List ℤ). unwrap_or (lower_median xs) v) (sym (values_same r w mesh plane inside some on c d cl dl wc wd))
+  number_same None c d cl dl wc wd has =
       ap (λ (xs : List ℤ). unwrap_or (lower_median xs) (image_value (seen_through w r))) (sym same)
       ∙ unwrap_same (lower_median (defined_values r (cell_pixels r mesh there))) (image_value (seen_through w r)) (image_value r)
       (some_member (defined_values r (cell_pixels r mesh there)) (some_values r (cell_pixels r mesh there) a.0
       (in_cell r w mesh plane inside some on r there a.0 (below_from_defined r a.0 a.1) a.2) a.1))
     where
+      a : (a : ℕ) × IsTrue (is_defined r a) × (mesh_cell_of mesh r.shape.width a ≡ (d + w.top / mesh) * cells_along mesh r.shape.width + (c + w.left / mesh))
+      a = has refl
+
       there : ℕ
       there = (d + w.top / mesh) * cells_along mesh r.shape.width + (c + w.left / mesh)
 
@@ -294,11 +300,11 @@ module _ (r : Raster) (w : Window) (mesh : ℕ) (plane : IsPlane r) (inside : Is
 -- ---- numbers in the grid
 
 -- the number at a place of the grid
-grid_is : (r : Raster) (mesh i j : ℕ) → i < cells_along mesh r.shape.width → j < cells_along mesh r.shape.height
-    → number_in_grid (values_of_mesh r mesh) (cells_along mesh r.shape.width) i j ≡ mesh_value r mesh (j * cells_along mesh r.shape.width + i)
+grid_is : (empty : Option ℤ) (r : Raster) (mesh i j : ℕ) → i < cells_along mesh r.shape.width → j < cells_along mesh r.shape.height
+    → number_in_grid (values_of_mesh empty r mesh) (cells_along mesh r.shape.width) i j ≡ mesh_value empty r mesh (j * cells_along mesh r.shape.width + i)
 unfolding values_of_mesh
-grid_is r mesh i j il jl =
-    get_or-map-range_with_len (mesh_value r mesh) 0 (cell_count mesh r.shape) (j * cells_along mesh r.shape.width + i) (j * cells_along mesh r.shape.width + i)
+grid_is empty r mesh i j il jl =
+    get_or-map-range_with_len (mesh_value empty r mesh) 0 (cell_count mesh r.shape) (j * cells_along mesh r.shape.width + i) (j * cells_along mesh r.shape.width + i)
     (pos 0)
     (mul-add-lt j (cells_along mesh r.shape.width) i (cells_along mesh r.shape.height) jl il) (omega arith)
 
@@ -417,36 +423,36 @@ module _ (values there : List ℤ) (mesh wide narrow high low left top first_col
 -- ---- the background
 
 -- with a mesh, the flat background
-background_flat : (r : Raster) (mesh p : ℕ) → 0 < mesh
-    → background r mesh true p ≡ mesh_value r mesh (p / r.shape.width / mesh * cells_along mesh r.shape.width + p % r.shape.width / mesh)
+background_flat : (empty : Option ℤ) (r : Raster) (mesh p : ℕ) → 0 < mesh
+    → background empty r mesh true p ≡ mesh_value empty r mesh (p / r.shape.width / mesh * cells_along mesh r.shape.width + p % r.shape.width / mesh)
 unfolding background mesh_cell_of
-background_flat r mesh p l =
-    ap (λ (b : Bool). cond b (pos 0) (mesh_value r mesh (p / r.shape.width / mesh * cells_along mesh r.shape.width + p % r.shape.width / mesh)))
+background_flat empty r mesh p l =
+    ap (λ (b : Bool). cond b (pos 0) (mesh_value empty r mesh (p / r.shape.width / mesh * cells_along mesh r.shape.width + p % r.shape.width / mesh)))
     (ne_eqb mesh 0 (λ e. absurd (omega (arith, e, l))))
 
 -- and the smooth one
-background_smooth : (r : Raster) (mesh p : ℕ) → 0 < mesh
-    → background r mesh false p
-    ≡ interpolated (filtered_values r mesh) (cells_along mesh r.shape.width) (cells_along mesh r.shape.height) mesh (p % r.shape.width) (p / r.shape.width)
+background_smooth : (empty : Option ℤ) (r : Raster) (mesh p : ℕ) → 0 < mesh
+    → background empty r mesh false p
+    ≡ interpolated (filtered_values empty r mesh) (cells_along mesh r.shape.width) (cells_along mesh r.shape.height) mesh (p % r.shape.width) (p / r.shape.width)
 unfolding background pixel_level
-background_smooth r mesh p l =
+background_smooth empty r mesh p l =
     ap (λ (b : Bool). cond b (pos 0)
-    (interpolated (filtered_values r mesh) (cells_along mesh r.shape.width) (cells_along mesh r.shape.height) mesh (p % r.shape.width) (p / r.shape.width)))
+    (interpolated (filtered_values empty r mesh) (cells_along mesh r.shape.width) (cells_along mesh r.shape.height) mesh (p % r.shape.width) (p / r.shape.width)))
     (ne_eqb mesh 0 (λ e. absurd (omega (arith, e, l))))
 
-filtered_values_is : (r : Raster) (mesh : ℕ)
-    → filtered_values r mesh ≡ filtered_mesh (values_of_mesh r mesh) (cells_along mesh r.shape.width) (cells_along mesh r.shape.height)
+filtered_values_is : (empty : Option ℤ) (r : Raster) (mesh : ℕ)
+    → filtered_values empty r mesh ≡ filtered_mesh (values_of_mesh empty r mesh) (cells_along mesh r.shape.width) (cells_along mesh r.shape.height)
 unfolding filtered_values
-filtered_values_is r mesh = refl
+filtered_values_is empty r mesh = refl
 
--- the cells with defined pixels, as the window counts the pixel
-abbrev HaveDefined : Raster → Bool → ℕ → ℕ → ℕ → Type 0
-HaveDefined r flat mesh x y =
-    (c d : ℕ) → c < cells_along mesh r.shape.width → d < cells_along mesh r.shape.height → IsNeeded flat mesh x c → IsNeeded flat mesh y d
+-- the cells with defined pixels, where no number is given, as the window counts the pixel
+abbrev HaveDefined : Option ℤ → Raster → Bool → ℕ → ℕ → ℕ → Type 0
+HaveDefined empty r flat mesh x y =
+    empty ≡ None → (c d : ℕ) → c < cells_along mesh r.shape.width → d < cells_along mesh r.shape.height → IsNeeded flat mesh x c → IsNeeded flat mesh y d
     → (a : ℕ) × IsTrue (is_defined r a) × (mesh_cell_of mesh r.shape.width a ≡ d * cells_along mesh r.shape.width + c)
 
-module _ (r : Raster) (w : Window) (mesh : ℕ) (plane : IsPlane r) (inside : IsInside r.shape w) (some : 0 < mesh) (on : IsOnMesh mesh w) (x y : ℕ)
-    (xl : x < w.shape.width) (yl : y < w.shape.height) where
+module _ (empty : Option ℤ) (r : Raster) (w : Window) (mesh : ℕ) (plane : IsPlane r) (inside : IsInside r.shape w) (some : 0 < mesh) (on : IsOnMesh mesh w)
+    (x y : ℕ) (xl : x < w.shape.width) (yl : y < w.shape.height) where
   abbrev first_column : ℕ
   first_column = w.left / mesh
 
@@ -461,18 +467,18 @@ module _ (r : Raster) (w : Window) (mesh : ℕ) (plane : IsPlane r) (inside : Is
 
   -- the flat background of the window's pixel in column x of row y
   flat_same : IsClearAlong true mesh w.left w.shape.width r.shape.width (x + w.left) → IsClearAlong true mesh w.top w.shape.height r.shape.height (y + w.top)
-      → HaveDefined r true mesh (x + w.left) (y + w.top)
-      → mesh_value (seen_through w r) mesh (y / mesh * cells_along mesh w.shape.width + x / mesh)
-      ≡ mesh_value r mesh ((y + w.top) / mesh * cells_along mesh r.shape.width + (x + w.left) / mesh)
+      → HaveDefined empty r true mesh (x + w.left) (y + w.top)
+      → mesh_value empty (seen_through w r) mesh (y / mesh * cells_along mesh w.shape.width + x / mesh)
+      ≡ mesh_value empty r mesh ((y + w.top) / mesh * cells_along mesh r.shape.width + (x + w.left) / mesh)
   flat_same clear_x clear_y defined =
-      number_same r w mesh plane inside some on (x / mesh) (y / mesh) cl dl
+      number_same r w mesh plane inside some on empty (x / mesh) (y / mesh) cl dl
       (subst (λ (c : ℕ). IsWholeCell mesh w.left w.shape.width r.shape.width c) column
       (clear_x ((x + w.left) / mesh) (subst (λ (c : ℕ). c < cells_along mesh r.shape.width) (sym column) there_c) refl))
       (subst (λ (d : ℕ). IsWholeCell mesh w.top w.shape.height r.shape.height d) row
       (clear_y ((y + w.top) / mesh) (subst (λ (d : ℕ). d < cells_along mesh r.shape.height) (sym row) there_d) refl))
-      (defined (x / mesh + w.left / mesh) (y / mesh + w.top / mesh) there_c there_d column row)
-      ∙ ap (λ (n : ℕ). mesh_value r mesh (n * cells_along mesh r.shape.width + (x / mesh + w.left / mesh))) (sym row)
-      ∙ ap (λ (n : ℕ). mesh_value r mesh ((y + w.top) / mesh * cells_along mesh r.shape.width + n)) (sym column)
+      (λ none. defined none (x / mesh + w.left / mesh) (y / mesh + w.top / mesh) there_c there_d column row)
+      ∙ ap (λ (n : ℕ). mesh_value empty r mesh (n * cells_along mesh r.shape.width + (x / mesh + w.left / mesh))) (sym row)
+      ∙ ap (λ (n : ℕ). mesh_value empty r mesh ((y + w.top) / mesh * cells_along mesh r.shape.width + n)) (sym column)
     where
       cl : x / mesh < cells_along mesh w.shape.width
       cl = along-above mesh w.shape.width x some xl
@@ -494,23 +500,23 @@ module _ (r : Raster) (w : Window) (mesh : ℕ) (plane : IsPlane r) (inside : Is
 
   module _ (clear_x : IsClearAlong false mesh w.left w.shape.width r.shape.width (x + w.left))
       (clear_y : IsClearAlong false mesh w.top w.shape.height r.shape.height (y + w.top))
-      (defined : HaveDefined r false mesh (x + w.left) (y + w.top)) where
+      (defined : HaveDefined empty r false mesh (x + w.left) (y + w.top)) where
     -- the numbers that a smooth background needs
     grid_same : (k l i j : ℕ) → AreOneCell mesh w.left w.shape.width r.shape.width (w.left / mesh) x k i
         → AreOneCell mesh w.top w.shape.height r.shape.height (w.top / mesh) y l j
-        → number_in_grid (values_of_mesh r mesh) (cells_along mesh r.shape.width) k l
-        ≡ number_in_grid (values_of_mesh (seen_through w r) mesh) (cells_along mesh w.shape.width) i j
+        → number_in_grid (values_of_mesh empty r mesh) (cells_along mesh r.shape.width) k l
+        ≡ number_in_grid (values_of_mesh empty (seen_through w r) mesh) (cells_along mesh w.shape.width) i j
     unfolding seen_through
     grid_same k l i j c d =
-        grid_is r mesh k l c.below d.below
-        ∙ ap (λ (n : ℕ). mesh_value r mesh (l * cells_along mesh r.shape.width + n)) c.is
-        ∙ ap (λ (n : ℕ). mesh_value r mesh (n * cells_along mesh r.shape.width + (i + w.left / mesh))) d.is
-        ∙ sym (number_same r w mesh plane inside some on i j c.below_there d.below_there c.seen d.seen has)
-        ∙ sym (grid_is (seen_through w r) mesh i j c.below_there d.below_there)
+        grid_is empty r mesh k l c.below d.below
+        ∙ ap (λ (n : ℕ). mesh_value empty r mesh (l * cells_along mesh r.shape.width + n)) c.is
+        ∙ ap (λ (n : ℕ). mesh_value empty r mesh (n * cells_along mesh r.shape.width + (i + w.left / mesh))) d.is
+        ∙ sym (number_same r w mesh plane inside some on empty i j c.below_there d.below_there c.seen d.seen has)
+        ∙ sym (grid_is empty (seen_through w r) mesh i j c.below_there d.below_there)
       where
-        has : (a : ℕ) × IsTrue (is_defined r a)
+        has : empty ≡ None → (a : ℕ) × IsTrue (is_defined r a)
             × (mesh_cell_of mesh r.shape.width a ≡ (j + w.top / mesh) * cells_along mesh r.shape.width + (i + w.left / mesh))
-        has = defined (i + w.left / mesh) (j + w.top / mesh) (subst (λ (n : ℕ). n < cells_along mesh r.shape.width) c.is c.below)
+        has none = defined none (i + w.left / mesh) (j + w.top / mesh) (subst (λ (n : ℕ). n < cells_along mesh r.shape.width) c.is c.below)
             (subst (λ (n : ℕ). n < cells_along mesh r.shape.height) d.is d.below)
             (subst (λ (n : ℕ). IsNeeded false mesh (x + w.left) n) c.is c.needed) (subst (λ (n : ℕ). IsNeeded false mesh (y + w.top) n) d.is d.needed)
 
@@ -518,19 +524,19 @@ module _ (r : Raster) (w : Window) (mesh : ℕ) (plane : IsPlane r) (inside : Is
     around_same : (i j : ℕ)
         → ((k : ℕ) → k < cells_along mesh r.shape.width → i + w.left / mesh ≤ k + 1 → k ≤ i + w.left / mesh + 1 → IsNeeded false mesh (x + w.left) k)
         → ((l : ℕ) → l < cells_along mesh r.shape.height → j + w.top / mesh ≤ l + 1 → l ≤ j + w.top / mesh + 1 → IsNeeded false mesh (y + w.top) l)
-        → numbers_around (values_of_mesh r mesh) (cells_along mesh r.shape.width) (cells_along mesh r.shape.height) (i + w.left / mesh) (j + w.top / mesh)
-        ≡ numbers_around (values_of_mesh (seen_through w r) mesh) (cells_along mesh w.shape.width) (cells_along mesh w.shape.height) i j
+        → numbers_around (values_of_mesh empty r mesh) (cells_along mesh r.shape.width) (cells_along mesh r.shape.height) (i + w.left / mesh) (j + w.top / mesh)
+        ≡ numbers_around (values_of_mesh empty (seen_through w r) mesh) (cells_along mesh w.shape.width) (cells_along mesh w.shape.height) i j
     unfolding numbers_around
     around_same i j beside_x beside_y =
         paired_flat_map (AreOneCell mesh w.top w.shape.height r.shape.height (w.top / mesh) y)
-        (λ l. map (λ k. number_in_grid (values_of_mesh r mesh) (cells_along mesh r.shape.width) k l)
+        (λ l. map (λ k. number_in_grid (values_of_mesh empty r mesh) (cells_along mesh r.shape.width) k l)
         (places_around (cells_along mesh r.shape.width) (i + w.left / mesh)))
-        (λ l. map (λ k. number_in_grid (values_of_mesh (seen_through w r) mesh) (cells_along mesh w.shape.width) k l)
+        (λ l. map (λ k. number_in_grid (values_of_mesh empty (seen_through w r) mesh) (cells_along mesh w.shape.width) k l)
         (places_around (cells_along mesh w.shape.width) i))
         (places_around (cells_along mesh r.shape.height) (j + w.top / mesh)) (places_around (cells_along mesh w.shape.height) j)
         (λ l m d. paired_map (AreOneCell mesh w.left w.shape.width r.shape.width (w.left / mesh) x)
-        (λ k. number_in_grid (values_of_mesh r mesh) (cells_along mesh r.shape.width) k l)
-        (λ k. number_in_grid (values_of_mesh (seen_through w r) mesh) (cells_along mesh w.shape.width) k m)
+        (λ k. number_in_grid (values_of_mesh empty r mesh) (cells_along mesh r.shape.width) k l)
+        (λ k. number_in_grid (values_of_mesh empty (seen_through w r) mesh) (cells_along mesh w.shape.width) k m)
         (places_around (cells_along mesh r.shape.width) (i + w.left / mesh)) (places_around (cells_along mesh w.shape.width) i) (λ k h c. grid_same k l h m c d)
         (places_paired mesh w.left w.shape.width r.shape.width (w.left / mesh) x across_is clear_x (i + w.left / mesh) i refl beside_x))
         (places_paired mesh w.top w.shape.height r.shape.height (w.top / mesh) y along_is clear_y (j + w.top / mesh) j refl beside_y)
@@ -545,18 +551,18 @@ module _ (r : Raster) (w : Window) (mesh : ℕ) (plane : IsPlane r) (inside : Is
     -- the filtered numbers that it reads
     filtered_same : (i j : ℕ) → (i ≡ cell_before (cells_along mesh w.shape.width) mesh x) ⊎ (i ≡ cell_after (cells_along mesh w.shape.width) mesh x)
         → (j ≡ cell_before (cells_along mesh w.shape.height) mesh y) ⊎ (j ≡ cell_after (cells_along mesh w.shape.height) mesh y)
-        → number_in_grid (filtered_values r mesh) (cells_along mesh r.shape.width) (i + w.left / mesh) (j + w.top / mesh)
-        ≡ number_in_grid (filtered_values (seen_through w r) mesh) (cells_along mesh w.shape.width) i j
+        → number_in_grid (filtered_values empty r mesh) (cells_along mesh r.shape.width) (i + w.left / mesh) (j + w.top / mesh)
+        ≡ number_in_grid (filtered_values empty (seen_through w r) mesh) (cells_along mesh w.shape.width) i j
     unfolding seen_through
     filtered_same i j u v =
-        ap (λ (xs : List ℤ). number_in_grid xs (cells_along mesh r.shape.width) (i + w.left / mesh) (j + w.top / mesh)) (filtered_values_is r mesh)
-        ∙ filtered_is (values_of_mesh r mesh) (cells_along mesh r.shape.width) (cells_along mesh r.shape.height) (i + w.left / mesh) (j + w.top / mesh)
+        ap (λ (xs : List ℤ). number_in_grid xs (cells_along mesh r.shape.width) (i + w.left / mesh) (j + w.top / mesh)) (filtered_values_is empty r mesh)
+        ∙ filtered_is (values_of_mesh empty r mesh) (cells_along mesh r.shape.width) (cells_along mesh r.shape.height) (i + w.left / mesh) (j + w.top / mesh)
         (seen_whole mesh w.left w.shape.width r.shape.width (w.left / mesh) i across_is (i_below u))
         (seen_whole mesh w.top w.shape.height r.shape.height (w.top / mesh) j along_is (j_below v))
         ∙ ap (λ (xs : List ℤ). unwrap_or (lower_median xs) (pos 0)) (around_same i j (beside_i u) (beside_j v))
-        ∙ sym (filtered_is (values_of_mesh (seen_through w r) mesh) (cells_along mesh w.shape.width) (cells_along mesh w.shape.height) i j (i_below u)
+        ∙ sym (filtered_is (values_of_mesh empty (seen_through w r) mesh) (cells_along mesh w.shape.width) (cells_along mesh w.shape.height) i j (i_below u)
         (j_below v))
-        ∙ sym (ap (λ (xs : List ℤ). number_in_grid xs (cells_along mesh w.shape.width) i j) (filtered_values_is (seen_through w r) mesh))
+        ∙ sym (ap (λ (xs : List ℤ). number_in_grid xs (cells_along mesh w.shape.width) i j) (filtered_values_is empty (seen_through w r) mesh))
       where
         i_below : (i ≡ cell_before (cells_along mesh w.shape.width) mesh x) ⊎ (i ≡ cell_after (cells_along mesh w.shape.width) mesh x)
             → i < cells_along mesh w.shape.width
@@ -591,9 +597,9 @@ module _ (r : Raster) (w : Window) (mesh : ℕ) (plane : IsPlane r) (inside : Is
             along_same.beside_after k l (subst (λ (n : ℕ). n ≤ k + 1) (sym f) a) (subst (λ (n : ℕ). k ≤ n + 1) (sym f) b)
 
     -- so the level is the same
-    smooth_same : interpolated (filtered_values r mesh) (cells_along mesh r.shape.width) (cells_along mesh r.shape.height) mesh (x + w.left) (y + w.top)
-        ≡ interpolated (filtered_values (seen_through w r) mesh) (cells_along mesh w.shape.width) (cells_along mesh w.shape.height) mesh x y
-    smooth_same = level_same (filtered_values r mesh) (filtered_values (seen_through w r) mesh) mesh r.shape.width w.shape.width r.shape.height w.shape.height
+    smooth_same : interpolated (filtered_values empty r mesh) (cells_along mesh r.shape.width) (cells_along mesh r.shape.height) mesh (x + w.left) (y + w.top)
+        ≡ interpolated (filtered_values empty (seen_through w r) mesh) (cells_along mesh w.shape.width) (cells_along mesh w.shape.height) mesh x y
+    smooth_same = level_same (filtered_values empty r mesh) (filtered_values empty (seen_through w r) mesh) mesh r.shape.width w.shape.width r.shape.height w.shape.height
         w.left w.top (w.left / mesh) (w.top / mesh) x y
         across_same along_same filtered_same
 
@@ -602,11 +608,11 @@ module _ (r : Raster) (w : Window) (mesh : ℕ) (plane : IsPlane r) (inside : Is
 -- the background of a pixel of the window that is clear
 pub background_is_seen : BackgroundIsSeen
 unfolding seen_through
-background_is_seen r w flat mesh q plane inside some on l clear = go flat
+background_is_seen empty r w flat mesh q plane inside some on l clear = go flat
     (subst (λ (n : ℕ). IsClearAlong flat mesh w.left w.shape.width r.shape.width n) at.column clear.across)
     (subst (λ (n : ℕ). IsClearAlong flat mesh w.top w.shape.height r.shape.height n) at.row clear.along)
-    (subst (λ (n : ℕ). HaveDefined r flat mesh n (q / w.shape.width + w.top)) at.column
-    (subst (λ (n : ℕ). HaveDefined r flat mesh (in_whole r.shape.width w q % r.shape.width) n) at.row clear.defined))
+    (subst (λ (n : ℕ). HaveDefined empty r flat mesh n (q / w.shape.width + w.top)) at.column
+    (subst (λ (n : ℕ). HaveDefined empty r flat mesh (in_whole r.shape.width w q % r.shape.width) n) at.row clear.defined))
   where
     at : IsAt r.shape.width w.shape.width w.left w.top (in_whole r.shape.width w q) q
     at = in_whole-at r.shape w q inside
@@ -619,43 +625,43 @@ background_is_seen r w flat mesh q plane inside some on l clear = go flat
 
     go : (flat : Bool) → IsClearAlong flat mesh w.left w.shape.width r.shape.width (q % w.shape.width + w.left)
         → IsClearAlong flat mesh w.top w.shape.height r.shape.height (q / w.shape.width + w.top)
-        → HaveDefined r flat mesh (q % w.shape.width + w.left) (q / w.shape.width + w.top)
-        → background (seen_through w r) mesh flat q ≡ background r mesh flat (in_whole r.shape.width w q)
+        → HaveDefined empty r flat mesh (q % w.shape.width + w.left) (q / w.shape.width + w.top)
+        → background empty (seen_through w r) mesh flat q ≡ background empty r mesh flat (in_whole r.shape.width w q)
     go true a b c =
-        background_flat (seen_through w r) mesh q some
-        ∙ flat_same r w mesh plane inside some on (q % w.shape.width) (q / w.shape.width) xl yl a b c
-        ∙ ap (λ (n : ℕ). mesh_value r mesh (n / mesh * cells_along mesh r.shape.width + (q % w.shape.width + w.left) / mesh)) (sym at.row)
-        ∙ ap (λ (n : ℕ). mesh_value r mesh (in_whole r.shape.width w q / r.shape.width / mesh * cells_along mesh r.shape.width + n / mesh)) (sym at.column)
-        ∙ sym (background_flat r mesh (in_whole r.shape.width w q) some)
+        background_flat empty (seen_through w r) mesh q some
+        ∙ flat_same empty r w mesh plane inside some on (q % w.shape.width) (q / w.shape.width) xl yl a b c
+        ∙ ap (λ (n : ℕ). mesh_value empty r mesh (n / mesh * cells_along mesh r.shape.width + (q % w.shape.width + w.left) / mesh)) (sym at.row)
+        ∙ ap (λ (n : ℕ). mesh_value empty r mesh (in_whole r.shape.width w q / r.shape.width / mesh * cells_along mesh r.shape.width + n / mesh)) (sym at.column)
+        ∙ sym (background_flat empty r mesh (in_whole r.shape.width w q) some)
     go false a b c =
-        background_smooth (seen_through w r) mesh q some
-        ∙ sym (smooth_same r w mesh plane inside some on (q % w.shape.width) (q / w.shape.width) xl yl a b c)
-        ∙ ap (λ (n : ℕ). interpolated (filtered_values r mesh) (cells_along mesh r.shape.width) (cells_along mesh r.shape.height) mesh
+        background_smooth empty (seen_through w r) mesh q some
+        ∙ sym (smooth_same empty r w mesh plane inside some on (q % w.shape.width) (q / w.shape.width) xl yl a b c)
+        ∙ ap (λ (n : ℕ). interpolated (filtered_values empty r mesh) (cells_along mesh r.shape.width) (cells_along mesh r.shape.height) mesh
         (q % w.shape.width + w.left) n) (sym at.row)
-        ∙ ap (λ (n : ℕ). interpolated (filtered_values r mesh) (cells_along mesh r.shape.width) (cells_along mesh r.shape.height) mesh n
+        ∙ ap (λ (n : ℕ). interpolated (filtered_values empty r mesh) (cells_along mesh r.shape.width) (cells_along mesh r.shape.height) mesh n
         (in_whole r.shape.width w q / r.shape.width)) (sym at.column)
-        ∙ sym (background_smooth r mesh (in_whole r.shape.width w q) some)
+        ∙ sym (background_smooth empty r mesh (in_whole r.shape.width w q) some)
 
 -- a pixel of the residual
-pub residual_value : (r : Raster) (mesh : ℕ) (flat : Bool) (p : ℕ) → p < length r.values
-    → value_at (residual_of r mesh flat).values p ≡ option_map (λ v. v -ℤ background r mesh flat p) (value_at r.values p)
-unfolding residual_of residual_at pixels
-residual_value r mesh flat p l =
-    get_or-map-range_with_len (λ q. option_map (λ v. v -ℤ background r mesh flat q) (value_at r.values q)) 0 (length r.values) p p None l (omega arith)
+pub residual_value : (empty : Option ℤ) (r : Raster) (mesh : ℕ) (flat : Bool) (p : ℕ) → p < length r.values
+    → value_at (residual_with empty r mesh flat).values p ≡ option_map (λ v. v -ℤ background empty r mesh flat p) (value_at r.values p)
+unfolding residual_with residual_at pixels
+residual_value empty r mesh flat p l =
+    get_or-map-range_with_len (λ q. option_map (λ v. v -ℤ background empty r mesh flat q) (value_at r.values q)) 0 (length r.values) p p None l (omega arith)
 
 -- it has the shape of the plane
-pub residual_shape : (r : Raster) (mesh : ℕ) (flat : Bool) → (residual_of r mesh flat).shape ≡ r.shape
-unfolding residual_of
-residual_shape r mesh flat = refl
+pub residual_shape : (empty : Option ℤ) (r : Raster) (mesh : ℕ) (flat : Bool) → (residual_with empty r mesh flat).shape ≡ r.shape
+unfolding residual_with
+residual_shape empty r mesh flat = refl
 
 -- and its residual
 pub residual_is_seen : ResidualIsSeen
-residual_is_seen r w flat mesh q plane inside some on l clear =
-    residual_value (seen_through w r) mesh flat q (subst (λ (n : ℕ). q < n) (sym (seen-length w r)) l)
-    ∙ ap (λ (o : Option ℤ). option_map (λ v. v -ℤ background (seen_through w r) mesh flat q) o) (seen-value w r q l)
+residual_is_seen empty r w flat mesh q plane inside some on l clear =
+    residual_value empty (seen_through w r) mesh flat q (subst (λ (n : ℕ). q < n) (sym (seen-length w r)) l)
+    ∙ ap (λ (o : Option ℤ). option_map (λ v. v -ℤ background empty (seen_through w r) mesh flat q) o) (seen-value w r q l)
     ∙ ap (λ (z : ℤ). option_map (λ v. v -ℤ z) (value_at r.values (in_whole r.shape.width w q)))
-    (background_is_seen r w flat mesh q plane inside some on l clear)
-    ∙ sym (residual_value r mesh flat (in_whole r.shape.width w q) below)
+    (background_is_seen empty r w flat mesh q plane inside some on l clear)
+    ∙ sym (residual_value empty r mesh flat (in_whole r.shape.width w q) below)
   where
     below : in_whole r.shape.width w q < length r.values
     below =
@@ -664,16 +670,16 @@ residual_is_seen r w flat mesh q plane inside some on l clear =
 
 -- so the window's residual shows the whole's there
 pub residual_is_shown : ResidualIsShown
-unfolding residual_of seen_through
-residual_is_shown r w flat mesh sure plane inside some on within = record {
+unfolding residual_with seen_through
+residual_is_shown empty r w flat mesh sure plane inside some on within = record {
   shape_is = seen-shape w r;
   inside = inside;
   shown = λ p l k. let g = within p k in record {
     it = g.0;
-    below = subst (λ (n : ℕ). g.0 < n) (sym (is_plane (seen_through w r) mesh flat seen_plane)) g.1;
+    below = subst (λ (n : ℕ). g.0 < n) (sym (is_plane empty (seen_through w r) mesh flat seen_plane)) g.1;
     place = g.2;
-    same = ap (value_at (residual_of r mesh flat).values) (sym g.2)
-        ∙ sym (residual_is_seen r w flat mesh g.0 plane inside some on g.1 (subst (λ (n : ℕ). IsClear r w flat mesh n) (sym g.2) g.3));
+    same = ap (value_at (residual_with empty r mesh flat).values) (sym g.2)
+        ∙ sym (residual_is_seen empty r w flat mesh g.0 plane inside some on g.1 (subst (λ (n : ℕ). IsClear empty r w flat mesh n) (sym g.2) g.3));
   };
 }
   where
@@ -682,24 +688,24 @@ residual_is_shown r w flat mesh sure plane inside some on within = record {
 
 -- and the window tells where that is
 pub clear_is_told : ClearIsToldFromTheWindow
-clear_is_told r w flat mesh q plane inside some on clear_x clear_y defined = record {
+clear_is_told empty r w flat mesh q plane inside some on clear_x clear_y defined = record {
   across = subst (λ (n : ℕ). IsClearAlong flat mesh w.left w.shape.width r.shape.width n) (sym at.column) clear_x;
   along = subst (λ (n : ℕ). IsClearAlong flat mesh w.top w.shape.height r.shape.height n) (sym at.row) clear_y;
-  defined = subst (λ (n : ℕ). HaveDefined r flat mesh n (in_whole r.shape.width w q / r.shape.width)) (sym at.column)
-      (subst (λ (n : ℕ). HaveDefined r flat mesh (q % w.shape.width + w.left) n) (sym at.row) have);
+  defined = subst (λ (n : ℕ). HaveDefined empty r flat mesh n (in_whole r.shape.width w q / r.shape.width)) (sym at.column)
+      (subst (λ (n : ℕ). HaveDefined empty r flat mesh (q % w.shape.width + w.left) n) (sym at.row) have);
 }
   where
     at : IsAt r.shape.width w.shape.width w.left w.top (in_whole r.shape.width w q) q
     at = in_whole-at r.shape w q inside
 
-    have : HaveDefined r flat mesh (q % w.shape.width + w.left) (q / w.shape.width + w.top)
-    have c d cl dl nc nd =
+    have : HaveDefined empty r flat mesh (q % w.shape.width + w.left) (q / w.shape.width + w.top)
+    have none c d cl dl nc nd =
         let u : IsSeenCell mesh w.shape.width (w.left / mesh) c =
         whole_seen mesh w.left w.shape.width r.shape.width (w.left / mesh) c (side_across r w mesh plane inside some on) cl (clear_x c cl nc) in
         let v : IsSeenCell mesh w.shape.height (w.top / mesh) d =
         whole_seen mesh w.top w.shape.height r.shape.height (w.top / mesh) d (side_along r w mesh plane inside some on) dl (clear_y d dl nd) in
         let b : (b : ℕ) × IsTrue (is_defined (seen_through w r) b) × (mesh_cell_of mesh w.shape.width b ≡ v.it * cells_along mesh w.shape.width + u.it) =
-        defined u.it v.it u.below v.below (subst (λ (n : ℕ). IsNeeded flat mesh (q % w.shape.width + w.left) n) u.is nc)
+        defined none u.it v.it u.below v.below (subst (λ (n : ℕ). IsNeeded flat mesh (q % w.shape.width + w.left) n) u.is nc)
         (subst (λ (n : ℕ). IsNeeded flat mesh (q / w.shape.width + w.top) n) v.is nd) in
         let few : b.0 < w.shape.width * w.shape.height = subst (λ (n : ℕ). b.0 < n) (seen-length w r) (below_from_defined (seen_through w r) b.0 b.1) in
         let parts : (b.0 / w.shape.width / mesh ≡ v.it) × (b.0 % w.shape.width / mesh ≡ u.it) =

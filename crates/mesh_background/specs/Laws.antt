@@ -1,12 +1,13 @@
 -- Model: the laws of the lower median, of the cells, of the interpolation and of the residual.
-use Rattle.std.specs.Prelude.{◌≡◌, ◌↔◌, ℕ, ◌+◌, ◌-◌, ◌*◌, ◌/◌, ◌%◌, ◌<◌, Bool, ℤ, pos, ◌≤ℤ◌, ◌+ℤ◌, ◌*ℤ◌, List, length, Some, IsSome, All}
+use Rattle.std.specs.Prelude.{◌≡◌, ◌↔◌, ℕ, ◌+◌, ◌-◌, ◌*◌, ◌/◌, ◌%◌, ◌<◌, Bool, ℤ, pos, ◌≤ℤ◌, ◌+ℤ◌, ◌*ℤ◌, List, length, Option, Some, IsSome, IfSome, All}
 use Rattle.std.specs.Int.{int_div_euclid}
+use Rattle.comp_tree.specs.Limits.{IsWithin, half_bound}
 use Rattle.comp_tree.specs.Raster.{Raster, IsPlane, HasValuesInRange, HasValuesInHalfRange}
 use Rattle.mesh_background.specs.Medians.{IsLowerMedian, lower_median}
-use Rattle.mesh_background.specs.Mesh.{mesh_cell_of}
+use Rattle.mesh_background.specs.Mesh.{mesh_cell_of, image_value}
 use Rattle.mesh_background.specs.Interpolation.{pixel_centre, cell_centre, next_cell, past_centre, cell_before, cell_after, interpolated}
 use Rattle.mesh_background.specs.Smoothing.{number_in_grid}
-use Rattle.mesh_background.specs.Residuals.{residual_of}
+use Rattle.mesh_background.specs.Residuals.{residual_with, residual_of}
 
 -- the lower median of a list is the one number that is so by the counts
 abbrev pub LowerMedianIsTheOne : Type 0
@@ -69,12 +70,26 @@ LevelsStayBetween = (values : List ℤ) (columns rows mesh x y : ℕ) (low high 
 
 -- without a mesh the residual is the plane
 abbrev pub NoMeshLeavesThePlane : Type 0
-NoMeshLeavesThePlane = (r : Raster) (flat : Bool) → residual_of r 0 flat ≡ r
+NoMeshLeavesThePlane = (empty : Option ℤ) (r : Raster) (flat : Bool) → residual_with empty r 0 flat ≡ r
 
 -- the residual of a plane has one value for each pixel
 abbrev pub ResidualIsPlane : Type 0
-ResidualIsPlane = (r : Raster) (mesh : ℕ) (flat : Bool) → IsPlane r → IsPlane (residual_of r mesh flat)
+ResidualIsPlane = (empty : Option ℤ) (r : Raster) (mesh : ℕ) (flat : Bool) → IsPlane r → IsPlane (residual_with empty r mesh flat)
 
--- and values within the range of pixels, where those of the plane are within half of it
+-- a number that is given for cells without a defined pixel is within half of the range of pixels
+abbrev pub IsNumberInHalfRange : Option ℤ → Raster → Type 0
+IsNumberInHalfRange empty r = IfSome empty (λ v. IsWithin (half_bound (length r.values)) v)
+
+-- and values within this range, where those of the plane are within half of it, too
 abbrev pub ResidualIsInRange : Type 0
-ResidualIsInRange = (r : Raster) (mesh : ℕ) (flat : Bool) → HasValuesInHalfRange r.values → HasValuesInRange (residual_of r mesh flat).values
+ResidualIsInRange = (empty : Option ℤ) (r : Raster) (mesh : ℕ) (flat : Bool) → HasValuesInHalfRange r.values → IsNumberInHalfRange empty r
+    → HasValuesInRange (residual_with empty r mesh flat).values
+
+-- such a number is the lower median of all defined pixels of the image
+abbrev pub IsOwnMedian : Option ℤ → Raster → Type 0
+IsOwnMedian empty r = IfSome empty (λ v. v ≡ image_value r)
+
+-- to give that is to give none
+abbrev pub OwnMedianIsNone : Type 0
+OwnMedianIsNone = (empty : Option ℤ) (r : Raster) (mesh : ℕ) (flat : Bool) → IsOwnMedian empty r
+    → residual_with empty r mesh flat ≡ residual_of r mesh flat

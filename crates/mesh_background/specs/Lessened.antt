@@ -25,8 +25,8 @@ abbrev pub number_of_cell : ℕ → ℕ → List ℤ → ℕ → ℤ
 number_of_cell mesh width numbers p = slice_index_or numbers (mesh_cell_of mesh width p) (pos 0)
 
 -- the numbers under a plane that its background comes from: flat, those of the cells, or else these filtered
-abbrev pub numbers_under : Raster → ℕ → Bool → List ℤ
-numbers_under r mesh flat = cond flat (values_of_mesh r mesh) (filtered_values r mesh)
+abbrev pub numbers_under : Option ℤ → Raster → ℕ → Bool → List ℤ
+numbers_under empty r mesh flat = cond flat (values_of_mesh empty r mesh) (filtered_values empty r mesh)
 
 -- the level at pixel p: flat, the number of its cell, or else the level between the cells' numbers
 abbrev pub level_of : Bool → ℕ → Shape → List ℤ → ℕ → ℤ

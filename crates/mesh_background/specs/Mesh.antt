@@ -1,5 +1,5 @@
 -- Model: a mesh of size M cuts an image from pixel 0 into cells of M by M pixels. The last cells of a row or a column may be short.
-use Rattle.std.specs.Prelude.{ℕ, ◌+◌, ◌-◌, ◌*◌, ◌/◌, ◌%◌, ◌==◌, ℤ, pos, List, map, filter, unwrap_or}
+use Rattle.std.specs.Prelude.{ℕ, ◌+◌, ◌-◌, ◌*◌, ◌/◌, ◌%◌, ◌==◌, ℤ, pos, List, map, filter, Option, unwrap_or}
 use Rattle.std.specs.List.{range_with_len}
 use Rattle.comp_tree.specs.declared.shape.Shape.{Shape}
 use Rattle.comp_tree.specs.Raster.{Raster, pixels, is_defined, level}
@@ -29,10 +29,14 @@ defined_values r ps = map (level r) (filter (is_defined r) ps)
 unfoldable pub image_value : Raster → ℤ
 image_value r = unwrap_or (lower_median (defined_values r (pixels r))) (pos 0)
 
--- the number of cell k: the lower median of its defined pixels, or that of the whole image where it has none
-unfoldable pub mesh_value : Raster → ℕ → ℕ → ℤ
-mesh_value r mesh k = unwrap_or (lower_median (defined_values r (cell_pixels r mesh k))) (image_value r)
+-- the number of a cell without a defined pixel: the one that is given for such cells, or else the image's own median
+abbrev pub empty_value : Option ℤ → Raster → ℤ
+empty_value empty r = unwrap_or empty (image_value r)
+
+-- the number of cell k: the lower median of its defined pixels, or where it has none, that of such cells
+unfoldable pub mesh_value : Option ℤ → Raster → ℕ → ℕ → ℤ
+mesh_value empty r mesh k = unwrap_or (lower_median (defined_values r (cell_pixels r mesh k))) (empty_value empty r)
 
 -- the numbers of all cells, row by row
-unfoldable pub values_of_mesh : Raster → ℕ → List ℤ
-values_of_mesh r mesh = map (mesh_value r mesh) (range_with_len 0 (cell_count mesh r.shape))
+unfoldable pub values_of_mesh : Option ℤ → Raster → ℕ → List ℤ
+values_of_mesh empty r mesh = map (mesh_value empty r mesh) (range_with_len 0 (cell_count mesh r.shape))

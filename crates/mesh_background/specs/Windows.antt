@@ -1,11 +1,12 @@
 -- Model: the law of windows: where the corner of a window stands on the mesh, and the cells on which a pixel's background depends lie
--- whole in it, the background is the same in the window.
-use Rattle.std.specs.Prelude.{◌≡◌, ℕ, ◌+◌, ◌*◌, ◌/◌, ◌%◌, ◌<◌, ◌≤◌, ◌⊎◌, Bool, true, false, IsTrue}
+-- whole in it, the background is the same in the window. Unless a number is given for cells without a defined pixel, these cells
+-- have to have one each, since the number of another one is the whole image's.
+use Rattle.std.specs.Prelude.{◌≡◌, ℕ, ◌+◌, ◌*◌, ◌/◌, ◌%◌, ◌<◌, ◌≤◌, ◌⊎◌, Bool, true, false, ℤ, Option, None, IsTrue}
 use Rattle.comp_tree.specs.Raster.{Raster, IsPlane, is_defined, value_at}
 use Rattle.comp_tree.specs.Windows.{Shows, Window, IsInside, in_whole, seen_through}
 use Rattle.mesh_background.specs.Mesh.{cells_along, mesh_cell_of}
 use Rattle.mesh_background.specs.Interpolation.{next_cell}
-use Rattle.mesh_background.specs.Residuals.{background, residual_of}
+use Rattle.mesh_background.specs.Residuals.{background, residual_with}
 
 -- Along a side: the window has `side` of `whole` pixels, from `corner` on. Cells are counted in the whole.
 
@@ -36,27 +37,27 @@ pub record IsOnMesh (mesh : ℕ) (w : Window) : Type 0 where
   pub rows : w.top % mesh ≡ 0
 
 -- all on which the background of pixel p of the whole depends is seen through the window
-pub record IsClear (r : Raster) (w : Window) (flat : Bool) (mesh p : ℕ) : Type 0 where
+pub record IsClear (empty : Option ℤ) (r : Raster) (w : Window) (flat : Bool) (mesh p : ℕ) : Type 0 where
   pub across : IsClearAlong flat mesh w.left w.shape.width r.shape.width (p % r.shape.width)
   pub along : IsClearAlong flat mesh w.top w.shape.height r.shape.height (p / r.shape.width)
-  pub defined : HasDefinedCells r flat mesh p
+  pub defined : empty ≡ None → HasDefinedCells r flat mesh p
 
 -- so the background is the same, and so is the residual
 abbrev pub BackgroundIsSeen : Type 0
-BackgroundIsSeen = (r : Raster) (w : Window) (flat : Bool) (mesh q : ℕ) → IsPlane r → IsInside r.shape w → 0 < mesh → IsOnMesh mesh w
-    → q < w.shape.width * w.shape.height → IsClear r w flat mesh (in_whole r.shape.width w q)
-    → background (seen_through w r) mesh flat q ≡ background r mesh flat (in_whole r.shape.width w q)
+BackgroundIsSeen = (empty : Option ℤ) (r : Raster) (w : Window) (flat : Bool) (mesh q : ℕ) → IsPlane r → IsInside r.shape w → 0 < mesh → IsOnMesh mesh w
+    → q < w.shape.width * w.shape.height → IsClear empty r w flat mesh (in_whole r.shape.width w q)
+    → background empty (seen_through w r) mesh flat q ≡ background empty r mesh flat (in_whole r.shape.width w q)
 
 abbrev pub ResidualIsSeen : Type 0
-ResidualIsSeen = (r : Raster) (w : Window) (flat : Bool) (mesh q : ℕ) → IsPlane r → IsInside r.shape w → 0 < mesh → IsOnMesh mesh w
-    → q < w.shape.width * w.shape.height → IsClear r w flat mesh (in_whole r.shape.width w q)
-    → value_at (residual_of (seen_through w r) mesh flat).values q ≡ value_at (residual_of r mesh flat).values (in_whole r.shape.width w q)
+ResidualIsSeen = (empty : Option ℤ) (r : Raster) (w : Window) (flat : Bool) (mesh q : ℕ) → IsPlane r → IsInside r.shape w → 0 < mesh → IsOnMesh mesh w
+    → q < w.shape.width * w.shape.height → IsClear empty r w flat mesh (in_whole r.shape.width w q)
+    → value_at (residual_with empty (seen_through w r) mesh flat).values q ≡ value_at (residual_with empty r mesh flat).values (in_whole r.shape.width w q)
 
 -- and the window's residual shows the whole's wherever this is so
 abbrev pub ResidualIsShown : Type 0
-ResidualIsShown = (r : Raster) (w : Window) (flat : Bool) (mesh : ℕ) (sure : ℕ → Bool) → IsPlane r → IsInside r.shape w → 0 < mesh → IsOnMesh mesh w
-    → ((p : ℕ) → IsTrue (sure p) → (q : ℕ) × (q < w.shape.width * w.shape.height) × (in_whole r.shape.width w q ≡ p) × IsClear r w flat mesh p)
-    → Shows (residual_of r mesh flat) (residual_of (seen_through w r) mesh flat) w sure
+ResidualIsShown = (empty : Option ℤ) (r : Raster) (w : Window) (flat : Bool) (mesh : ℕ) (sure : ℕ → Bool) → IsPlane r → IsInside r.shape w → 0 < mesh → IsOnMesh mesh w
+    → ((p : ℕ) → IsTrue (sure p) → (q : ℕ) × (q < w.shape.width * w.shape.height) × (in_whole r.shape.width w q ≡ p) × IsClear empty r w flat mesh p)
+    → Shows (residual_with empty r mesh flat) (residual_with empty (seen_through w r) mesh flat) w sure
 
 -- each cell that is seen through the window and on which its pixel q depends has a defined pixel there
 abbrev pub HasDefinedCellsIn : Raster → Window → Bool → ℕ → ℕ → Type 0
@@ -66,7 +67,7 @@ HasDefinedCellsIn s w flat mesh q = (c d : ℕ) → c < cells_along mesh w.shape
 
 -- so that all this is told from the window alone
 abbrev pub ClearIsToldFromTheWindow : Type 0
-ClearIsToldFromTheWindow = (r : Raster) (w : Window) (flat : Bool) (mesh q : ℕ) → IsPlane r → IsInside r.shape w → 0 < mesh → IsOnMesh mesh w
+ClearIsToldFromTheWindow = (empty : Option ℤ) (r : Raster) (w : Window) (flat : Bool) (mesh q : ℕ) → IsPlane r → IsInside r.shape w → 0 < mesh → IsOnMesh mesh w
     → IsClearAlong flat mesh w.left w.shape.width r.shape.width (q % w.shape.width + w.left)
     → IsClearAlong flat mesh w.top w.shape.height r.shape.height (q / w.shape.width + w.top)
-    → HasDefinedCellsIn (seen_through w r) w flat mesh q → IsClear r w flat mesh (in_whole r.shape.width w q)
+    → (empty ≡ None → HasDefinedCellsIn (seen_through w r) w flat mesh q) → IsClear empty r w flat mesh (in_whole r.shape.width w q)

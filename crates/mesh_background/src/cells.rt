@@ -5,7 +5,7 @@ ghost use Rattle.std.specs.List.{range_with_len};
 ghost use Rattle.std.specs.Option.{option_to_list};
 ghost use Rattle.comp_tree.specs.Raster.{Raster, value_at};
 ghost use Rattle.mesh_background.specs.Medians.{lower_median as lower_median_of};
-ghost use Rattle.mesh_background.specs.Mesh.{cell_count, cell_pixels, defined_values, image_value, values_of_mesh};
+ghost use Rattle.mesh_background.specs.Mesh.{cell_count, cell_pixels, defined_values, image_value, empty_value, values_of_mesh};
 
 use crate::grid::Grid;
 use crate::median::lower_median;
@@ -27,11 +27,26 @@ pub fn mesh_values<R: Threads + Sync>(
 ) -> Result<Vec<i64>, OutOfMemory>
     requires some { 0 < mesh }
     requires few { mesh ≤ 65535 }
-    ensures { IfOk result (λ values. values.items ≡ values_of_mesh plane.now mesh) }
+    ensures { IfOk result (λ values. values.items ≡ values_of_mesh None plane.now mesh) }
+{
+    mesh_values_with(rt, alloc, plane, mesh, None)
+}
+
+/// The same, but that where a number is given, the cells without a defined pixel get that.
+pub fn mesh_values_with<R: Threads + Sync>(
+    rt: &R,
+    alloc: Global,
+    plane: &Plane,
+    mesh: u32,
+    empty: Option<i64>,
+) -> Result<Vec<i64>, OutOfMemory>
+    requires some { 0 < mesh }
+    requires few { mesh ≤ 65535 }
+    ensures { IfOk result (λ values. values.items ≡ values_of_mesh empty plane.now mesh) }
 {
     let grid = Grid::of(plane.shape(), mesh);
     let medians = cell_medians(rt, alloc, plane, &grid)?;
-    let otherwise = value_of_empty_cells(alloc, plane, &medians)?;
+    let otherwise = value_for_empty_cells(alloc, plane, &medians, empty)?;
     filled(alloc, &medians, otherwise)
 }
 
@@ -137,7 +152,23 @@ fn push_value(plane: &Plane, p: u32, members: &mut Vec<i64>) -> Result<(), OutOf
     Ok(())
 }
 
-// What a cell without a defined pixel gets. The image's own median is looked for only where there is such a cell.
+// What a cell without a defined pixel gets: the given number, or else the image's own median.
+fn value_for_empty_cells(
+    alloc: Global,
+    plane: &Plane,
+    medians: &[Option<i64>],
+    empty: Option<i64>,
+) -> Result<i64, OutOfMemory>
+    ensures { IfOk result (λ value. (k : ℕ) → slice_get medians.now k ≡ Some None
+        → value ≡ empty_value empty plane.now) }
+{
+    match empty {
+        Some(number) => Ok(number),
+        None => value_of_empty_cells(alloc, plane, medians),
+    }
+}
+
+// What it gets where no number is given. The image's own median is looked for only where there is such a cell.
 fn value_of_empty_cells(
     alloc: Global,
     plane: &Plane,

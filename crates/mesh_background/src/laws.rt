@@ -2,7 +2,7 @@
 //! function that does nothing, and speaks of the definitions alone.
 
 ghost use Rattle.mesh_background.specs.Windows.{BackgroundIsSeen, ResidualIsSeen, ResidualIsShown, ClearIsToldFromTheWindow};
-ghost use Rattle.mesh_background.specs.Laws.{LowerMedianIsTheOne, SomeMemberIsLowerMedian, CellsAreSquares, PixelsLieBetweenCentres, LevelIsWeighed, WeightsComeToAll, LevelsStayBetween, NoMeshLeavesThePlane, ResidualIsPlane, ResidualIsInRange};
+ghost use Rattle.mesh_background.specs.Laws.{LowerMedianIsTheOne, SomeMemberIsLowerMedian, CellsAreSquares, PixelsLieBetweenCentres, LevelIsWeighed, WeightsComeToAll, LevelsStayBetween, NoMeshLeavesThePlane, ResidualIsPlane, ResidualIsInRange, OwnMedianIsNone};
 
 /// A list that isn't empty has exactly one lower median.
 pub fn each_list_has_one_lower_median()
@@ -41,14 +41,20 @@ pub fn no_mesh_leaves_the_plane()
 {}
 
 /// The residual of a plane is a plane: it has one value for each pixel, and these are within the range of pixels where
-/// those of the plane are within half of it.
+/// those of the plane, and a number that is given for empty cells, are within half of it.
 pub fn residual_is_a_plane()
     ensures one_each { ResidualIsPlane }
     ensures in_range { ResidualIsInRange }
 {}
 
+/// To give the image's own median for the cells without a defined pixel is to give no number for them.
+#[tactic(auto, using(crate::proofs::Residuals::own_median))]
+pub fn own_median_is_no_number()
+    ensures { OwnMedianIsNone }
+{}
+
 /// Where a window's corner stands on the mesh, and the cells on which a pixel's background depends lie whole in the
-/// window and have defined pixels, the background and the residual are the same in the window. So its residual shows
+/// window, and have defined pixels unless a number is given for the others, the background and the residual are the same in the window. So its residual shows
 /// that of the whole there, and which pixels these are can be told from the window.
 pub fn residual_is_seen()
     ensures background { BackgroundIsSeen }

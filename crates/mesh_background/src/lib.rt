@@ -11,10 +11,10 @@ mod slope;
 mod smoothing;
 mod subtraction;
 
-pub use cells::mesh_values;
+pub use cells::{mesh_values, mesh_values_with};
 pub use interpolation::level_at;
 pub use smoothing::smooth_mesh;
-pub use subtraction::{residual, subtract_background};
+pub use subtraction::{residual, residual_with, subtract_background, subtract_background_with};
 
 #[cfg(test)]
 mod tests;

@@ -7,18 +7,19 @@
 //! in whole pixels: half of (2 * next - 1) * mesh - 1, rounded up, is next * mesh less half of mesh + 1, rounded down.
 //! For `next` = 0 this would lie before the row, which starts at 0 then; and no run reaches past the row's end.
 
-ghost use Rattle.std.specs.Prelude.{◌≡◌, ℕ, ◌+◌, ◌-◌, ◌*◌, ◌/◌, ◌^◌, ◌<◌, ◌≤◌, ◌-ℤ◌, true, false, length, IfOk, IfSome, OnOk, OnErr};
+ghost use Rattle.std.specs.Prelude.{◌≡◌, ℕ, ◌+◌, ◌-◌, ◌*◌, ◌/◌, ◌^◌, ◌<◌, ◌≤◌, ◌-ℤ◌, true, false, length, None, IfOk, IfSome, OnOk, OnErr};
 ghost use Rattle.std.specs.Option.{option_map};
 ghost use Rattle.comp_tree.specs.Limits.{IsInHalfRange, IsWithin, IsWithinRange, value_bound};
 ghost use Rattle.comp_tree.specs.Raster.{HasValuesInHalfRange, HasValuesWithin};
+ghost use Rattle.mesh_background.specs.Laws.{IsNumberInHalfRange};
 ghost use Rattle.mesh_background.specs.Mesh.{values_of_mesh};
-ghost use Rattle.mesh_background.specs.Residuals.{filtered_values, pixel_level, residual_of};
+ghost use Rattle.mesh_background.specs.Residuals.{filtered_values, pixel_level, residual_of, residual_with};
 ghost use Rattle.mesh_background.specs.Interpolation.{past_centre, cell_before, cell_after};
 ghost use Rattle.mesh_background.specs.Lessened.{numbers_under, number_of_cell, level_of};
 ghost use Rattle.mesh_background.specs.Lessened.{AreNumbers, IsInHalfRangeFrom, IsBand, IsLessened};
 ghost use Rattle.mesh_background.specs.Slopes.{steps_on, first_before, IsSmallStep};
 
-use crate::cells::mesh_values;
+use crate::cells::mesh_values_with;
 use crate::grid::Grid;
 use crate::interpolation::{Between, down_column, level_between, parts_of, step_between};
 use crate::slope::Mixed;
@@ -48,7 +49,25 @@ pub fn residual<R: Threads + Sync>(
     requires in_range { HasValuesInHalfRange plane.values }
     ensures { IfOk result (λ residual. residual ≡ residual_of plane mesh flat) }
 {
-    subtract_background(rt, alloc, &mut plane, mesh, flat, parts)?;
+    residual_with(rt, alloc, plane, mesh, flat, None, parts)
+}
+
+/// The same, but that where a number is given, the cells without a defined pixel have that.
+pub fn residual_with<R: Threads + Sync>(
+    rt: &R,
+    alloc: Global,
+    mut plane: Plane,
+    mesh: u32,
+    flat: bool,
+    empty: Option<i64>,
+    parts: u32,
+) -> Result<Plane, OutOfMemory>
+    requires few { mesh ≤ 65535 }
+    requires in_range { HasValuesInHalfRange plane.values }
+    requires given { IsNumberInHalfRange empty plane }
+    ensures { IfOk result (λ residual. residual ≡ residual_with empty plane mesh flat) }
+{
+    subtract_background_with(rt, alloc, &mut plane, mesh, flat, empty, parts)?;
     Ok(plane)
 }
 
@@ -70,22 +89,41 @@ pub fn subtract_background<R: Threads + Sync>(
     ensures subtracted { OnOk result (plane.new ≡ residual_of plane.old mesh flat) }
     ensures kept { OnErr result (plane.new ≡ plane.old) }
 {
+    subtract_background_with(rt, alloc, plane, mesh, flat, None, parts)
+}
+
+/// The same, but that where a number is given, the cells without a defined pixel have that.
+pub fn subtract_background_with<R: Threads + Sync>(
+    rt: &R,
+    alloc: Global,
+    plane: &mut Plane,
+    mesh: u32,
+    flat: bool,
+    empty: Option<i64>,
+    parts: u32,
+) -> Result<(), OutOfMemory>
+    requires few { mesh ≤ 65535 }
+    requires in_range { HasValuesInHalfRange plane.old.values }
+    requires given { IsNumberInHalfRange empty plane.old }
+    ensures subtracted { OnOk result (plane.new ≡ residual_with empty plane.old mesh flat) }
+    ensures kept { OnErr result (plane.new ≡ plane.old) }
+{
     if mesh == 0 {
         return Ok(());
     }
-    let numbers = match mesh_values(rt, alloc, plane, mesh) {
+    let numbers = match mesh_values_with(rt, alloc, plane, mesh, empty) {
         Ok(numbers) => numbers,
         Err(error) => return Err(error),
     };
     let grid = Grid::of(plane.shape(), mesh);
     if flat {
-        return subtract_numbers(rt, alloc, plane, &grid, &numbers, parts);
+        return subtract_numbers(rt, alloc, plane, &grid, &numbers, empty, parts);
     }
     let smooth = match smooth_mesh(alloc, &numbers, grid.columns, grid.rows) {
         Ok(smooth) => smooth,
         Err(error) => return Err(error),
     };
-    subtract_levels(rt, alloc, plane, &grid, &smooth, parts)
+    subtract_levels(rt, alloc, plane, &grid, &smooth, empty, parts)
 }
 
 // Takes the numbers of the cells away from the values of their pixels.
@@ -95,15 +133,17 @@ fn subtract_numbers<R: Threads + Sync>(
     plane: &mut Plane,
     grid: &Grid,
     numbers: &[i64],
+    empty: Option<i64>,
     parts: u32,
 ) -> Result<(), OutOfMemory>
     requires shape { grid.now.shape ≡ plane.old.shape }
-    requires numbers { numbers.now ≡ values_of_mesh plane.old grid.now.mesh }
+    requires numbers { numbers.now ≡ values_of_mesh empty plane.old grid.now.mesh }
     requires in_range { HasValuesInHalfRange plane.old.values }
-    ensures subtracted { OnOk result (plane.new ≡ residual_of plane.old grid.now.mesh true) }
+    requires given { IsNumberInHalfRange empty plane.old }
+    ensures subtracted { OnOk result (plane.new ≡ residual_with empty plane.old grid.now.mesh true) }
     ensures kept { OnErr result (plane.new ≡ plane.old) }
 {
-    subtract_by_bands(rt, alloc, plane, grid, numbers, true, parts)
+    subtract_by_bands(rt, alloc, plane, grid, numbers, true, empty, parts)
 }
 
 // Takes the levels between the filtered numbers away from the values of the pixels.
@@ -113,15 +153,17 @@ fn subtract_levels<R: Threads + Sync>(
     plane: &mut Plane,
     grid: &Grid,
     numbers: &[i64],
+    empty: Option<i64>,
     parts: u32,
 ) -> Result<(), OutOfMemory>
     requires shape { grid.now.shape ≡ plane.old.shape }
-    requires numbers { numbers.now ≡ filtered_values plane.old grid.now.mesh }
+    requires numbers { numbers.now ≡ filtered_values empty plane.old grid.now.mesh }
     requires in_range { HasValuesInHalfRange plane.old.values }
-    ensures subtracted { OnOk result (plane.new ≡ residual_of plane.old grid.now.mesh false) }
+    requires given { IsNumberInHalfRange empty plane.old }
+    ensures subtracted { OnOk result (plane.new ≡ residual_with empty plane.old grid.now.mesh false) }
     ensures kept { OnErr result (plane.new ≡ plane.old) }
 {
-    subtract_by_bands(rt, alloc, plane, grid, numbers, false, parts)
+    subtract_by_bands(rt, alloc, plane, grid, numbers, false, empty, parts)
 }
 
 // Both, by bands of whole rows. A band begins with a row, so its rows are found by its first pixel alone.
@@ -132,15 +174,17 @@ fn subtract_by_bands<R: Threads + Sync>(
     grid: &Grid,
     numbers: &[i64],
     flat: bool,
+    empty: Option<i64>,
     parts: u32,
 ) -> Result<(), OutOfMemory>
     requires shape { grid.now.shape ≡ plane.old.shape }
-    requires numbers { numbers.now ≡ numbers_under plane.old grid.now.mesh flat }
+    requires numbers { numbers.now ≡ numbers_under empty plane.old grid.now.mesh flat }
     requires in_range { HasValuesInHalfRange plane.old.values }
-    ensures subtracted { OnOk result (plane.new ≡ residual_of plane.old grid.now.mesh flat) }
+    requires given { IsNumberInHalfRange empty plane.old }
+    ensures subtracted { OnOk result (plane.new ≡ residual_with empty plane.old grid.now.mesh flat) }
     ensures kept { OnErr result (plane.new ≡ plane.old) }
 {
-    let most = most_left(plane);
+    let most = most_left(plane, empty);
     let size = plane.shape().band_size(parts_for(most, parts));
     plane.change_bands(
         rt,
@@ -157,14 +201,28 @@ fn subtract_by_bands<R: Threads + Sync>(
     )
 }
 
-// A bound of what is left of the values. A background is within any bound of its plane's values, so what is left is
-// within twice that; nor is it beyond the range, since each value is within half of it.
-fn most_left(plane: &Plane) -> u64
+// A bound of what is left of the values. A background is within any bound of its plane's values and of the number that is
+// given for empty cells, so what is left is within twice that; nor is it beyond the range, since each of them is within
+// half of it.
+fn most_left(plane: &Plane, empty: Option<i64>) -> u64
     requires in_range { HasValuesInHalfRange plane.now.values }
+    requires given { IsNumberInHalfRange empty plane.now }
     ensures half { HasValuesWithin (result / 2) plane.now.values }
+    ensures given { IfSome empty (λ v. IsWithin (result / 2) v) }
     ensures bounded { result ≤ value_bound (length plane.now.values) }
 {
-    (bound_of_values(plane) * 2).min(range_of(plane.shape().pixels()))
+    let most = bound_with(plane, empty);
+    (most * 2).min(range_of(plane.shape().pixels()))
+}
+
+// A bound of the values and of that number.
+fn bound_with(plane: &Plane, empty: Option<i64>) -> u64
+    requires given { IsNumberInHalfRange empty plane.now }
+    ensures within { HasValuesWithin result plane.now.values }
+    ensures given { IfSome empty (λ v. IsWithin result v) }
+    ensures bounded { result ≤ value_bound (length plane.now.values) }
+{
+    with_value(bound_of_values(plane), empty)
 }
 
 // A bound of the values. That of a plane of 32-bit numbers doesn't tell whether what is left stays below 2^31: so where it

@@ -4,7 +4,10 @@ ghost use Rattle.std.specs.Prelude.{◌^◌, IfOk, IfSome};
 ghost use Rattle.comp_tree.specs.Limits.{IsWithin};
 ghost use Rattle.comp_tree.specs.Raster.{HasValuesInHalfRange};
 
-use crate::{level_at, mesh_values, residual, smooth_mesh, subtract_background};
+use crate::{
+    level_at, mesh_values, mesh_values_with, residual, residual_with, smooth_mesh,
+    subtract_background, subtract_background_with,
+};
 use comp_tree::{Plane, Shape};
 use std::alloc::Global;
 use std::process::Abort;
@@ -111,6 +114,32 @@ fn an_image_without_defined_pixels_has_zeros(rt: HostRuntime) -> Result<(), Fail
     let plane = plane_of(rt.alloc(), 2, 1, &[U, U])?;
     try_medians(&rt, rt.alloc(), &plane, 1, &[0, 0])?;
     try_residual(&rt, rt.alloc(), &plane, 1, false, 1, &[U, U])
+}
+
+// The same cells; the one that has none gets the given number.
+#[test]
+fn a_given_number_goes_to_the_empty_cell(rt: HostRuntime) -> Result<(), Fail> {
+    let plane = plane_of(rt.alloc(), 5, 2, &[1, 4, U, U, 9, 2, 3, U, U, 7])?;
+    let values = mesh_values_with(&rt, rt.alloc(), &plane, 2, Some(-5))?;
+    try_numbers(&rt, &values, &[2, -5, 7]);
+    Ok(())
+}
+
+// The numbers are filtered to -5 2 -5, and the background is -5 -4 -2 0 -4 in both rows.
+#[test]
+fn a_given_number_is_in_the_smooth_residual(rt: HostRuntime) -> Result<(), Fail> {
+    let plane = plane_of(rt.alloc(), 5, 2, &[1, 4, U, U, 9, 2, 3, U, U, 7])?;
+    let left = residual_with(&rt, rt.alloc(), plane, 2, false, Some(-5), 1)?;
+    try_values(&rt, &left, &[6, 8, U, U, 13, 7, 7, U, U, 11]);
+    Ok(())
+}
+
+#[test]
+fn a_given_number_is_subtracted_in_place(rt: HostRuntime) -> Result<(), Fail> {
+    let mut plane = plane_of(rt.alloc(), 5, 2, &[1, 4, U, U, 9, 2, 3, U, U, 7])?;
+    subtract_background_with(&rt, rt.alloc(), &mut plane, 2, true, Some(-5), 2)?;
+    try_values(&rt, &plane, &[-1, 2, U, U, 2, 0, 1, U, U, 0]);
+    Ok(())
 }
 
 // The number of a cell is for the whole of it where the background is flat; without a mesh nothing is taken away.

@@ -8,7 +8,7 @@ use Rattle.rayon.proofs.ListFacts.{IfOk-then}
 use Rattle.mesh_background.specs.Medians.{lower_median}
 use Rattle.mesh_background.specs.Mesh.{cell_count, cell_pixels, defined_values}
 use Rattle.mesh_background.proofs.Gathering.{filled-is}
-use Rattle.mesh_background.proofs.cells.mesh_values.Goals as goal
+use Rattle.mesh_background.proofs.cells.mesh_values_with.Goals as goal
 
 pub returns : goal.returns
 returns g c =
@@ -21,6 +21,6 @@ returns g c =
     ∙ ap (λ (m : ℕ). map (λ k. lower_median (defined_values r (cell_pixels r m k))) (range_with_len 0 (cell_count m r.shape))) c.of-grid.ensures.mesh in
     let fits : SFits w64 c.in_ok-otherwise.otherwise = search rules in
     IfOk-then c.filled.result _ _ c.filled.ensures (λ v is.
-    filled-is r c.args.mesh medians c.in_ok-otherwise.otherwise v.items are
+    filled-is c.args.empty r c.args.mesh medians c.in_ok-otherwise.otherwise v.items are
     (λ k e. c.in_ok-otherwise.ensures k (ap (λ (xs : List (Option ℤ)). slice_get xs k) (sym same) ∙ e))
     (is ∙ ap (λ (z : ℤ). map (λ m. unwrap_or m z) medians) (to_z-of_z w64 c.in_ok-otherwise.otherwise fits)))
