@@ -16,7 +16,7 @@ use Rattle.comp_tree.proofs.Exported.{AlikeAlong, AreSurePair, IsReachedThere, a
 use Rattle.comp_tree.proofs.Exported.{among_from_defined, below_from_defined, below_no_node, defined_from_at_least}
 use Rattle.comp_tree.proofs.Exported.{in_node-defined, paired_sym, reaches-is_IsReached, reaches_lower, reaches_sym}
 use Rattle.comp_tree.proofs.Exported.{reaches_trans, sure_components_are_seen, turned, window_along}
-use Rattle.mesh_background.specs.Residuals.{residual_of}
+use Rattle.mesh_background.specs.Residuals.{residual_with}
 use Rattle.node_sums.specs.Flux.{base_of}
 use Rattle.node_sums.specs.Sums.{sums_of}
 use Rattle.node_sums.proofs.Exported.{BaseCase, at_child, at_root, base-case, level-of_node, parent_holds}
@@ -58,7 +58,7 @@ module _ (laws : MapLaws) (d : DetectionChoice) (r values : Raster) (pieces : Li
   h = d.choice.threshold
 
   abbrev sure : ℕ → Bool
-  sure = is_sure r t.window d.flat d.mesh
+  sure = is_sure d.empty r t.window d.flat d.mesh
 
   plane_R : IsPlane R
   plane_R = whole laws d r pieces plane cover answers rows merged
@@ -203,7 +203,7 @@ module _ (laws : MapLaws) (d : DetectionChoice) (r values : Raster) (pieces : Li
               }
 
       pub around_measure : measure_over V (filter around_n (pixels R)) ≡ measure_over U (filter around_m (pixels S))
-      unfolding residual_of
+      unfolding residual_with
       around_measure = same_measure V U IsPairInParent same (filter around_n (pixels R)) (filter around_m (pixels S)) around_paired
         where
           same : (p q : ℕ) → IsPairInParent p q → value_at V.values p ≡ value_at U.values q

@@ -6,7 +6,7 @@ use Rattle.lemmas.proofs.Exported.{ArePaired, IsAmong, among_get, among_of, at_e
 use Rattle.comp_tree.specs.Raster.{Raster, IsPlane}
 use Rattle.comp_tree.specs.Windows.{seen_through}
 use Rattle.comp_tree.proofs.Exported.{in_whole-one}
-use Rattle.mesh_background.specs.Residuals.{residual_of}
+use Rattle.mesh_background.specs.Residuals.{residual_with}
 use Rattle.node_sums.specs.Sums.{sums_of}
 use Rattle.source_pick.specs.declared.catalogue.CatRow.{CatRow}
 use Rattle.source_pick.specs.Sources.{sources}
@@ -52,7 +52,7 @@ module _ (laws : MapLaws) (d : DetectionChoice) (r : Raster) (pieces : List Piec
   -- the first pixel of a piece's row is that of its source in the image
   first_of_row : (t : Piece) (row : CatRow) (c : Contains pieces t) (f : IsFromPiece d r t row)
       → first_pixel r.shape.width row ≡ (sums_of R d.connect (source_of_row laws.tiles d r pieces plane cover answers t row c f).here).first
-  unfolding residual_of
+  unfolding residual_with
   first_of_row t row c f =
       let s : IsSourceOfRow laws.tiles d r pieces plane cover answers t row = source_of_row laws.tiles d r pieces plane cover answers t row c f in
       ap (first_pixel r.shape.width) (s.row_is ∙ sym (s.from.moved.row (s.index + 1))) ∙ first_is R d.connect (s.index + 1) s.here
@@ -60,7 +60,7 @@ module _ (laws : MapLaws) (d : DetectionChoice) (r : Raster) (pieces : List Piec
   -- two rows of one piece with one first pixel are one
   same_row : (t : Piece) (row other : CatRow) → Contains pieces t → IsFromPiece d r t row → IsFromPiece d r t other
       → first_pixel r.shape.width row ≡ first_pixel r.shape.width other → row ≡ other
-  unfolding residual_of
+  unfolding residual_with
   same_row t row other c f g e =
       s.row_is
       ∙ ap (λ (k : ℕ). moved_row t.window (catalogue_row (part t) d.connect (k + 1) s.there)) place
@@ -102,7 +102,7 @@ module _ (laws : MapLaws) (d : DetectionChoice) (r : Raster) (pieces : List Piec
     pub first : first_pixel r.shape.width row ≡ (sums_of R d.connect n).first
 
   row_for : (n : ℕ) → IsAmong n (sources R d.connect d.choice) → (row : CatRow) × IsRowFor n row
-  unfolding residual_of
+  unfolding residual_with
   row_for n k = (row, record { piece = g.0; among = g.1.1.among; from = there.from; first = first })
     where
       g : (t : Piece) × ((m : ℕ) × IsPiecesSource laws.tiles d r pieces plane cover answers t n m)

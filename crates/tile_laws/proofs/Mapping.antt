@@ -14,7 +14,7 @@ use Rattle.comp_tree.specs.Components.{is_in_node}
 use Rattle.comp_tree.specs.Laws.{IsNode}
 use Rattle.comp_tree.specs.Windows.{Window, IsShown, seen_through, SureComponentsAreTheSame}
 use Rattle.comp_tree.proofs.Exported.{below_from_defined, in_node-defined, length-pixels}
-use Rattle.mesh_background.specs.Residuals.{residual_of}
+use Rattle.mesh_background.specs.Residuals.{residual_with}
 use Rattle.node_sums.specs.Sums.{sums_of}
 use Rattle.source_pick.specs.declared.choice.Choice.{Choice}
 use Rattle.source_pick.specs.declared.catalogue.CatRow.{CatRow}
@@ -180,7 +180,7 @@ module _ (laws : MapLaws) (d : DetectionChoice) (r : Raster) (pieces : List Piec
     pub first : (sums_of R d.connect it).first ≡ first_pixel r.shape.width row
 
   placed : (k : ℕ) (row : CatRow) → slice_get rows k ≡ Some row → IsPlaced k row
-  unfolding residual_of
+  unfolding residual_with
   placed k row e = record { it = g.0; at = g.1; first = sym (first_is R d.connect (k + 1) g.0) ∙ ap (first_pixel r.shape.width) g.2 }
     where
       there : slice_get (rows_from (catalogue_row R d.connect) 1 (sources R d.connect d.choice)) k ≡ Some (row_with_number (k + 1) row)
@@ -193,7 +193,7 @@ module _ (laws : MapLaws) (d : DetectionChoice) (r : Raster) (pieces : List Piec
   -- which is the source of the piece's row
   pub here_at : (t : Piece) (row : CatRow) (c : Contains pieces t) (f : IsFromPiece d r t row) (k : ℕ) → slice_get rows k ≡ Some row
       → slice_get (sources R d.connect d.choice) k ≡ Some (source_of_row laws.tiles d r pieces plane cover answers t row c f).here
-  unfolding residual_of
+  unfolding residual_with
   here_at t row c f k e = subst (λ (x : ℕ). slice_get (sources R d.connect d.choice) x ≡ Some s.here) same j.1
     where
       s : IsSourceOfRow laws.tiles d r pieces plane cover answers t row
@@ -222,7 +222,7 @@ module _ (laws : MapLaws) (d : DetectionChoice) (r : Raster) (pieces : List Piec
 
   module _ (p k : ℕ) where
     there : slice_index (mapped d r) p ≡ k + 1 → (t : Piece) × Contains pieces t × IsMappedBy d r rows t p k
-    unfolding residual_of seen_through
+    unfolding residual_with seen_through
     there e = (
       t,
       is.among,
@@ -279,7 +279,7 @@ module _ (laws : MapLaws) (d : DetectionChoice) (r : Raster) (pieces : List Piec
             (q.first ∙ ap (first_pixel r.shape.width) (sym (is.from.moved.row (own.index + 1))) ∙ first_is R d.connect (own.index + 1) n.it)
 
     back : (t : Piece) → Contains pieces t → IsMappedBy d r rows t p k → slice_index (mapped d r) p ≡ k + 1
-    unfolding residual_of
+    unfolding residual_with
     back t c b = map_from laws R d.connect d.choice whole p k s.here at holds
       where
         s : IsSourceOfRow laws.tiles d r pieces plane cover answers t b.row

@@ -11,7 +11,7 @@ use Rattle.comp_tree.specs.Windows.{Window, IsInside, in_whole, is_in_box, IsSho
 use Rattle.comp_tree.proofs.Exported.{IsAt, among_pixels, at_order, below_from_defined}
 use Rattle.comp_tree.proofs.Exported.{in_node-defined, in_node_from_among, in_whole-at, in_whole-one}
 use Rattle.comp_tree.proofs.Exported.{rising_pixels_of, some_columns}
-use Rattle.mesh_background.specs.Residuals.{residual_of}
+use Rattle.mesh_background.specs.Residuals.{residual_with}
 use Rattle.node_sums.specs.Sums.{total, sums_of}
 use Rattle.source_pick.specs.declared.choice.Choice.{Choice}
 use Rattle.source_pick.specs.declared.catalogue.CatRow.{CatRow}
@@ -148,12 +148,12 @@ module _ (laws : MapLaws) (d : DetectionChoice) (r values : Raster) (pieces : Li
   tile_is = piece laws d r pieces plane cover answers rows merged t among
 
   -- a pixel of the image that is sure in the values has the same value there
-  value_same : (p q : ℕ) → in_whole values.shape.width t.window q ≡ p → p < length V.values → IsTrue (is_sure values t.window d.flat d.mesh p)
+  value_same : (p q : ℕ) → in_whole values.shape.width t.window q ≡ p → p < length V.values → IsTrue (is_sure d.empty values t.window d.flat d.mesh p)
       → value_at V.values p ≡ value_at U.values q
-  unfolding residual_of
+  unfolding residual_with
   value_same p q e l k =
-      let shows : Shows V U t.window (is_sure values t.window d.flat d.mesh) =
-      shows_sure laws.tiles.background values t.window d.flat d.mesh value_plane inside_values (answers t among).on_mesh in
+      let shows : Shows V U t.window (is_sure d.empty values t.window d.flat d.mesh) =
+      shows_sure laws.tiles.background d.empty values t.window d.flat d.mesh value_plane inside_values (answers t among).on_mesh in
       let g : IsShown V U t.window p = shows.shown p l k in
       g.same ∙ ap (value_at U.values) (in_whole-one values.shape t.window g.it q inside_values (g.place ∙ sym e))
 
@@ -165,15 +165,15 @@ module _ (laws : MapLaws) (d : DetectionChoice) (r values : Raster) (pieces : Li
     first_in = first_inside S d.connect m tile_is.one_each k.from.node
 
     box : HasMeasuredBox d r values t first
-    unfolding residual_of
+    unfolding residual_with
     box = measures first k.from.own (source_pixel_high S d.connect d.choice tile_is.one_each m first k.from.node k.from.source first_in)
 
     -- so has each that the first pixel of a source reaches at the threshold
     pub reached_values : (p q : ℕ) → in_whole r.shape.width t.window q ≡ p → p < length R.values → IsReached S d.connect d.choice.threshold first q
         → value_at V.values p ≡ value_at U.values q
-    unfolding residual_of
+    unfolding residual_with
     reached_values p q e l path =
-        value_same p q place below (sure_in_box laws.tiles.background values t.window d.flat d.mesh value_plane inside_values
+        value_same p q place below (sure_in_box laws.tiles.background d.empty values t.window d.flat d.mesh value_plane inside_values
         (answers t among).on_mesh box.box p box.sure in_box)
       where
         place : in_whole values.shape.width t.window q ≡ p
@@ -184,13 +184,13 @@ module _ (laws : MapLaws) (d : DetectionChoice) (r values : Raster) (pieces : Li
 
         below : p < length V.values
         below =
-            let a : length V.values ≡ values.shape.width * values.shape.height = laws.tiles.background.one_each values d.mesh d.flat value_plane in
+            let a : length V.values ≡ values.shape.width * values.shape.height = laws.tiles.background.one_each d.empty values d.mesh d.flat value_plane in
             let b : length R.values ≡ r.shape.width * r.shape.height = whole laws d r pieces plane cover answers rows merged in
             let c : values.shape.width * values.shape.height ≡ r.shape.width * r.shape.height = ap (λ (x : Shape). x.width * x.height) same_shape in
             omega (arith, a, b, c, l)
 
     same_values : (p q : ℕ) → AreOfSource R S d.connect t.window n m p q → value_at V.values p ≡ value_at U.values q
-    unfolding residual_of
+    unfolding residual_with
     same_values p q c = reached_values p q c.place (below_from_defined R p (in_node-defined R d.connect n p c.here))
         (source_reached S d.connect d.choice tile_is.one_each m first q k.from.node k.from.source first_in c.there)
 

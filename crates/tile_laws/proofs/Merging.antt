@@ -7,7 +7,7 @@ use Rattle.comp_tree.specs.declared.shape.Connect.{Connect}
 use Rattle.comp_tree.specs.Raster.{Raster, IsPlane}
 use Rattle.comp_tree.specs.Laws.{IsNode}
 use Rattle.comp_tree.specs.Windows.{Window, in_whole, seen_through, DeepComponentsLieSure}
-use Rattle.mesh_background.specs.Residuals.{residual_of}
+use Rattle.mesh_background.specs.Residuals.{residual_with}
 use Rattle.node_sums.specs.Sums.{sums_of}
 use Rattle.source_pick.specs.declared.catalogue.CatRow.{CatRow}
 use Rattle.source_pick.specs.Sources.{is_source, sources}
@@ -88,7 +88,7 @@ module _ (laws : TileLaws) (d : DetectionChoice) (r : Raster) (pieces : List Pie
   part t = searched d (seen_through t.window r)
 
   pub plane_R : IsPlane R
-  plane_R = laws.background.one_each r d.mesh d.flat plane
+  plane_R = laws.background.one_each d.empty r d.mesh d.flat plane
 
   pub tile : (t : Piece) → Contains pieces t → IsTileOf R d.connect d.choice (tile_of d r t)
   tile t k = is_tile laws.background laws.deep d r t plane (answers t k)
@@ -100,7 +100,7 @@ module _ (laws : TileLaws) (d : DetectionChoice) (r : Raster) (pieces : List Pie
 
   -- the tile of a source of the image
   pub source_from : (n : ℕ) → IsAmong n (sources R d.connect d.choice) → (t : Piece) × ((m : ℕ) × IsPiecesSource t n m)
-  unfolding residual_of
+  unfolding residual_with
   source_from n k = (
     piece.it,
     (
@@ -150,7 +150,7 @@ module _ (laws : TileLaws) (d : DetectionChoice) (r : Raster) (pieces : List Pie
     pub from : IsFromPiece d r t (moved_row t.window (catalogue_row (part t) d.connect (index + 1) m))
 
   pub row_there : (t : Piece) (n m : ℕ) → IsPiecesSource t n m → IsRowThere t n m
-  unfolding residual_of
+  unfolding residual_with
   row_there t n m k = record {
     index = j.0;
     at = j.1;
@@ -185,7 +185,7 @@ module _ (laws : TileLaws) (d : DetectionChoice) (r : Raster) (pieces : List Pie
   moved_first : (t : Piece) (j m : ℕ)
       → first_pixel r.shape.width (moved_row t.window (catalogue_row (part t) d.connect j m))
       ≡ in_whole r.shape.width t.window (sums_of (part t) d.connect m).first
-  unfolding catalogue_row measured_row moved_row in_whole residual_of seen_through
+  unfolding catalogue_row measured_row moved_row in_whole residual_with seen_through
   moved_first t j m =
       let q : ℕ = (sums_of (part t) d.connect m).first in
       let a : q / t.window.shape.width + 1 + t.window.top - 1 ≡ q / t.window.shape.width + t.window.top = omega arith in
@@ -203,7 +203,7 @@ module _ (laws : TileLaws) (d : DetectionChoice) (r : Raster) (pieces : List Pie
     pub row_is : row ≡ moved_row t.window (catalogue_row (part t) d.connect (index + 1) there)
 
   pub source_of_row : (t : Piece) (row : CatRow) → Contains pieces t → IsFromPiece d r t row → IsSourceOfRow t row
-  unfolding residual_of
+  unfolding residual_with
   source_of_row t row k f = record {
     index = e.index;
     there = e.it;
@@ -301,7 +301,7 @@ module _ (laws : TileLaws) (d : DetectionChoice) (r : Raster) (pieces : List Pie
     )
 
     rising_here : IsRisingBy (first_pixel r.shape.width) rows_here
-    unfolding residual_of
+    unfolding residual_with
     rising_here =
         rising_rows (catalogue_row R d.connect) (first_pixel r.shape.width) (λ n. (sums_of R d.connect n).first) (λ k n. first_is R d.connect k n) 1
         (sources R d.connect d.choice)

@@ -15,7 +15,7 @@ use Rattle.comp_tree.proofs.Exported.{IsAt, all_from, all_gives, among_from_defi
 use Rattle.comp_tree.proofs.Exported.{in_whole-at, in_whole-below, seen-length, seen-shape, seen-value}
 use Rattle.mesh_background.specs.Mesh.{cells_along, mesh_cell_of}
 use Rattle.mesh_background.specs.Interpolation.{next_cell}
-use Rattle.mesh_background.specs.Residuals.{background, residual_of}
+use Rattle.mesh_background.specs.Residuals.{background, residual_with}
 use Rattle.mesh_background.specs.Windows.{IsNeeded, IsClearAlong, HasDefinedCells, IsOnMesh, IsClear, ResidualIsSeen, ClearIsToldFromTheWindow}
 use Rattle.mesh_background.specs.Laws.{NoMeshLeavesThePlane, ResidualIsPlane}
 use Rattle.mesh_background.proofs.Exported.{residual_value}
@@ -206,47 +206,67 @@ module _ (r : Raster) (mesh : ℕ) where
                 or_right (not (both_needed c d)) (cell_has c d)
                 (cell_has_from c d (h c d cl dl (needs_gives flat mesh (p % r.shape.width) c n.0) (needs_gives flat mesh (p / r.shape.width) d n.1)))
 
+-- the cells that the pixel needs have pixels with values, or a number is given for those that haven't
+abbrev has_numbers : Option ℤ → Raster → ℕ → Bool → ℕ → Bool
+has_numbers empty r mesh flat p = is_some empty || has_cells r mesh flat p
+
+abbrev HaveNumbers : Option ℤ → Raster → Bool → ℕ → ℕ → Type 0
+HaveNumbers empty r flat mesh p = empty ≡ None → HasDefinedCells r flat mesh p
+
+has_numbers_gives : (empty : Option ℤ) (r : Raster) (mesh : ℕ) (flat : Bool) (p : ℕ) → has_numbers empty r mesh flat p ≡ true
+    → HaveNumbers empty r flat mesh p
+has_numbers_gives None r mesh flat p k none = has_cells_gives r mesh flat p k
+has_numbers_gives (Some v) r mesh flat p k none = absurd (some_none none)
+  where
+    some_none : (let o : Option ℤ = Some v in o) ≡ None → ⊥
+    some_none e = cc
+
+has_numbers_from : (empty : Option ℤ) (r : Raster) (mesh : ℕ) (flat : Bool) (p : ℕ) → HaveNumbers empty r flat mesh p
+    → has_numbers empty r mesh flat p ≡ true
+has_numbers_from None r mesh flat p h = has_cells_from r mesh flat p (h refl)
+has_numbers_from (Some v) r mesh flat p h = refl
+
 -- ---- the sure pixels
 
--- pixel p lies in the clear box; and there is no mesh, or the pixel has no value, or the cells that it needs have pixels with values
-pub is_sure : Raster → Window → Bool → ℕ → ℕ → Bool
-is_sure r w flat mesh p = is_in_box r.shape.width (clear_box flat mesh r.shape w) p && ((mesh == 0) || (not (is_defined r p) || has_cells r mesh flat p))
+-- pixel p lies in the clear box; and there is no mesh, or the pixel has no value, or the cells that it needs have numbers
+pub is_sure : Option ℤ → Raster → Window → Bool → ℕ → ℕ → Bool
+is_sure empty r w flat mesh p = is_in_box r.shape.width (clear_box flat mesh r.shape w) p && ((mesh == 0) || (not (is_defined r p) || has_numbers empty r mesh flat p))
 
-record IsSure (r : Raster) (w : Window) (flat : Bool) (mesh p : ℕ) : Type 0 where
+record IsSure (empty : Option ℤ) (r : Raster) (w : Window) (flat : Bool) (mesh p : ℕ) : Type 0 where
   pub clear : IsTrue (is_in_box r.shape.width (clear_box flat mesh r.shape w) p)
-  pub cells : (mesh ≡ 0) ⊎ ((is_defined r p ≡ false) ⊎ HasDefinedCells r flat mesh p)
+  pub cells : (mesh ≡ 0) ⊎ ((is_defined r p ≡ false) ⊎ HaveNumbers empty r flat mesh p)
 
-sure_gives : (r : Raster) (w : Window) (flat : Bool) (mesh p : ℕ) → IsTrue (is_sure r w flat mesh p) → IsSure r w flat mesh p
+sure_gives : (empty : Option ℤ) (r : Raster) (w : Window) (flat : Bool) (mesh p : ℕ) → IsTrue (is_sure empty r w flat mesh p) → IsSure empty r w flat mesh p
 unfolding is_sure
-sure_gives r w flat mesh p k = record { clear = both.0; cells = on_mesh (or_cases (mesh == 0) (not (is_defined r p) || has_cells r mesh flat p) both.1) }
+sure_gives empty r w flat mesh p k = record { clear = both.0; cells = on_mesh (or_cases (mesh == 0) (not (is_defined r p) || has_numbers empty r mesh flat p) both.1) }
   where
-    both : (is_in_box r.shape.width (clear_box flat mesh r.shape w) p ≡ true) × (((mesh == 0) || (not (is_defined r p) || has_cells r mesh flat p)) ≡ true)
-    both = and_parts (is_in_box r.shape.width (clear_box flat mesh r.shape w) p) ((mesh == 0) || (not (is_defined r p) || has_cells r mesh flat p)) k
+    both : (is_in_box r.shape.width (clear_box flat mesh r.shape w) p ≡ true) × (((mesh == 0) || (not (is_defined r p) || has_numbers empty r mesh flat p)) ≡ true)
+    both = and_parts (is_in_box r.shape.width (clear_box flat mesh r.shape w) p) ((mesh == 0) || (not (is_defined r p) || has_numbers empty r mesh flat p)) k
 
-    at_value : (not (is_defined r p) ≡ true) ⊎ (has_cells r mesh flat p ≡ true) → (is_defined r p ≡ false) ⊎ HasDefinedCells r flat mesh p
+    at_value : (not (is_defined r p) ≡ true) ⊎ (has_numbers empty r mesh flat p ≡ true) → (is_defined r p ≡ false) ⊎ HaveNumbers empty r flat mesh p
     at_value (inl e) = inl (not-true (is_defined r p) e)
-    at_value (inr e) = inr (has_cells_gives r mesh flat p e)
+    at_value (inr e) = inr (has_numbers_gives empty r mesh flat p e)
 
-    on_mesh : ((mesh == 0) ≡ true) ⊎ ((not (is_defined r p) || has_cells r mesh flat p) ≡ true)
-        → (mesh ≡ 0) ⊎ ((is_defined r p ≡ false) ⊎ HasDefinedCells r flat mesh p)
+    on_mesh : ((mesh == 0) ≡ true) ⊎ ((not (is_defined r p) || has_numbers empty r mesh flat p) ≡ true)
+        → (mesh ≡ 0) ⊎ ((is_defined r p ≡ false) ⊎ HaveNumbers empty r flat mesh p)
     on_mesh (inl e) = inl (eqb-true mesh 0 e)
-    on_mesh (inr e) = inr (at_value (or_cases (not (is_defined r p)) (has_cells r mesh flat p) e))
+    on_mesh (inr e) = inr (at_value (or_cases (not (is_defined r p)) (has_numbers empty r mesh flat p) e))
 
-sure_from : (r : Raster) (w : Window) (flat : Bool) (mesh p : ℕ) → IsSure r w flat mesh p → IsTrue (is_sure r w flat mesh p)
+sure_from : (empty : Option ℤ) (r : Raster) (w : Window) (flat : Bool) (mesh p : ℕ) → IsSure empty r w flat mesh p → IsTrue (is_sure empty r w flat mesh p)
 unfolding is_sure
-sure_from r w flat mesh p k =
-    and_from (is_in_box r.shape.width (clear_box flat mesh r.shape w) p) ((mesh == 0) || (not (is_defined r p) || has_cells r mesh flat p)) k.clear
+sure_from empty r w flat mesh p k =
+    and_from (is_in_box r.shape.width (clear_box flat mesh r.shape w) p) ((mesh == 0) || (not (is_defined r p) || has_numbers empty r mesh flat p)) k.clear
     (go k.cells)
   where
-    go : (mesh ≡ 0) ⊎ ((is_defined r p ≡ false) ⊎ HasDefinedCells r flat mesh p)
-        → ((mesh == 0) || (not (is_defined r p) || has_cells r mesh flat p)) ≡ true
-    go (inl e) = or_left (mesh == 0) (not (is_defined r p) || has_cells r mesh flat p) (eq-eqb mesh 0 e)
+    go : (mesh ≡ 0) ⊎ ((is_defined r p ≡ false) ⊎ HaveNumbers empty r flat mesh p)
+        → ((mesh == 0) || (not (is_defined r p) || has_numbers empty r mesh flat p)) ≡ true
+    go (inl e) = or_left (mesh == 0) (not (is_defined r p) || has_numbers empty r mesh flat p) (eq-eqb mesh 0 e)
     go (inr (inl e)) =
-        or_right (mesh == 0) (not (is_defined r p) || has_cells r mesh flat p)
-        (or_left (not (is_defined r p)) (has_cells r mesh flat p) (not_from_false (is_defined r p) e))
+        or_right (mesh == 0) (not (is_defined r p) || has_numbers empty r mesh flat p)
+        (or_left (not (is_defined r p)) (has_numbers empty r mesh flat p) (not_from_false (is_defined r p) e))
     go (inr (inr e)) =
-        or_right (mesh == 0) (not (is_defined r p) || has_cells r mesh flat p)
-        (or_right (not (is_defined r p)) (has_cells r mesh flat p) (has_cells_from r mesh flat p e))
+        or_right (mesh == 0) (not (is_defined r p) || has_numbers empty r mesh flat p)
+        (or_right (not (is_defined r p)) (has_numbers empty r mesh flat p) (has_numbers_from empty r mesh flat p e))
 
 -- ---- what is clear in the window
 
@@ -261,7 +281,7 @@ pub record BackgroundLaws : Type 0 where
   pub seen : ResidualIsSeen
   pub told : ClearIsToldFromTheWindow
 
-module _ (laws : BackgroundLaws) (r : Raster) (w : Window) (flat : Bool) (mesh : ℕ) (plane : IsPlane r) (inside : IsInside r.shape w)
+module _ (laws : BackgroundLaws) (empty : Option ℤ) (r : Raster) (w : Window) (flat : Bool) (mesh : ℕ) (plane : IsPlane r) (inside : IsInside r.shape w)
     (on : 0 < mesh → IsOnMesh mesh w) where
   -- along both sides of a pixel of the clear box
   module _ (p : ℕ) (k : IsTrue (is_in_box r.shape.width (clear_box flat mesh r.shape w) p)) (some : 0 < mesh) where
@@ -275,8 +295,8 @@ module _ (laws : BackgroundLaws) (r : Raster) (w : Window) (flat : Bool) (mesh :
     clear_down = clear_along mesh w.top w.shape.height r.shape.height (p / r.shape.width) some (on some).rows flat placed.top placed.bottom
 
   -- the pixels of a sure box are sure
-  pub sure_in_box : (box : Box) (p : ℕ) → IsSureBox r w flat mesh box → IsTrue (is_in_box r.shape.width box p) → IsTrue (is_sure r w flat mesh p)
-  sure_in_box box p b k = sure_from r w flat mesh p (record { clear = clear; cells = go (cases_eq mesh 0) (cases_Bool (is_defined r p)) })
+  pub sure_in_box : (box : Box) (p : ℕ) → IsSureBox empty r w flat mesh box → IsTrue (is_in_box r.shape.width box p) → IsTrue (is_sure empty r w flat mesh p)
+  sure_in_box box p b k = sure_from empty r w flat mesh p (record { clear = clear; cells = go (cases_eq mesh 0) (cases_Bool (is_defined r p)) })
     where
       clear : IsTrue (is_in_box r.shape.width (clear_box flat mesh r.shape w) p)
       clear = in_larger r.shape.width (clear_box flat mesh r.shape w) box p b.clear k
@@ -290,29 +310,29 @@ module _ (laws : BackgroundLaws) (r : Raster) (w : Window) (flat : Bool) (mesh :
       value : value_at (seen_through w r).values q.it ≡ value_at r.values p
       value = seen-value w r q.it q.below ∙ ap (value_at r.values) q.place
 
-      told : 0 < mesh → is_defined r p ≡ true → IsClear r w flat mesh (in_whole r.shape.width w q.it)
+      told : 0 < mesh → is_defined r p ≡ true → IsClear empty r w flat mesh (in_whole r.shape.width w q.it)
       told some d =
-          laws.told r w flat mesh q.it plane inside some (on some)
+          laws.told empty r w flat mesh q.it plane inside some (on some)
           (subst (λ (n : ℕ). IsClearAlong flat mesh w.left w.shape.width r.shape.width n) at.column (clear_across p clear some))
           (subst (λ (n : ℕ). IsClearAlong flat mesh w.top w.shape.height r.shape.height n) at.row (clear_down p clear some))
-          (b.defined q.it some (subst (λ (n : ℕ). IsTrue (is_in_box r.shape.width box n)) (sym q.place) k) (ap (λ (o : Option ℤ). is_some o) value ∙ d))
+          (λ none. b.defined none q.it some (subst (λ (n : ℕ). IsTrue (is_in_box r.shape.width box n)) (sym q.place) k) (ap (λ (o : Option ℤ). is_some o) value ∙ d))
 
       go : (mesh ≡ 0) ⊎ (mesh ≡ 0 → ⊥) → (is_defined r p ≡ true) ⊎ (is_defined r p ≡ false)
-          → (mesh ≡ 0) ⊎ ((is_defined r p ≡ false) ⊎ HasDefinedCells r flat mesh p)
+          → (mesh ≡ 0) ⊎ ((is_defined r p ≡ false) ⊎ HaveNumbers empty r flat mesh p)
       go (inl e) d = inl e
       go (inr n) (inr d) = inr (inl d)
-      go (inr n) (inl d) = inr (inr (subst (λ (x : ℕ). HasDefinedCells r flat mesh x) q.place (told (omega arith) d).defined))
+      go (inr n) (inl d) = inr (inr (subst (λ (x : ℕ). HaveNumbers empty r flat mesh x) q.place (told (omega arith) d).defined))
 
   seen_plane : IsPlane (seen_through w r)
   seen_plane = seen-length w r ∙ sym (ap (λ (x : Shape). x.width * x.height) (seen-shape w r))
 
-  residual_none : (x : Raster) (p : ℕ) → p < length x.values → is_defined x p ≡ false → value_at (residual_of x mesh flat).values p ≡ None
+  residual_none : (x : Raster) (p : ℕ) → p < length x.values → is_defined x p ≡ false → value_at (residual_with empty x mesh flat).values p ≡ None
   residual_none x p l d =
-      residual_value x mesh flat p l ∙ ap (λ (o : Option ℤ). option_map (λ v. v -ℤ background x mesh flat p) o) (none_from (value_at x.values p) d)
+      residual_value empty x mesh flat p l ∙ ap (λ (o : Option ℤ). option_map (λ v. v -ℤ background empty x mesh flat p) o) (none_from (value_at x.values p) d)
 
-  module _ (p : ℕ) (k : IsTrue (is_sure r w flat mesh p)) where
-    sure : IsSure r w flat mesh p
-    sure = sure_gives r w flat mesh p k
+  module _ (p : ℕ) (k : IsTrue (is_sure empty r w flat mesh p)) where
+    sure : IsSure empty r w flat mesh p
+    sure = sure_gives empty r w flat mesh p k
 
     seen : IsSeenAt r w p
     seen = clear_seen r w flat mesh p sure.clear
@@ -330,19 +350,19 @@ module _ (laws : BackgroundLaws) (r : Raster) (w : Window) (flat : Bool) (mesh :
         omega (arith, seen.place)
 
     -- so the residual is the same
-    same_residual : value_at (residual_of r mesh flat).values p ≡ value_at (residual_of (seen_through w r) mesh flat).values seen.it
+    same_residual : value_at (residual_with empty r mesh flat).values p ≡ value_at (residual_with empty (seen_through w r) mesh flat).values seen.it
     same_residual = go (cases_eq mesh 0) sure.cells
       where
-        without : mesh ≡ 0 → value_at (residual_of r mesh flat).values p ≡ value_at (residual_of (seen_through w r) mesh flat).values seen.it
+        without : mesh ≡ 0 → value_at (residual_with empty r mesh flat).values p ≡ value_at (residual_with empty (seen_through w r) mesh flat).values seen.it
         without e =
-            ap (λ (m : ℕ). value_at (residual_of r m flat).values p) e
-            ∙ ap (λ (x : Raster). value_at x.values p) (laws.no_mesh r flat)
+            ap (λ (m : ℕ). value_at (residual_with empty r m flat).values p) e
+            ∙ ap (λ (x : Raster). value_at x.values p) (laws.no_mesh empty r flat)
             ∙ sym seen_value
-            ∙ sym (ap (λ (x : Raster). value_at x.values seen.it) (laws.no_mesh (seen_through w r) flat))
-            ∙ sym (ap (λ (m : ℕ). value_at (residual_of (seen_through w r) m flat).values seen.it) e)
+            ∙ sym (ap (λ (x : Raster). value_at x.values seen.it) (laws.no_mesh empty (seen_through w r) flat))
+            ∙ sym (ap (λ (m : ℕ). value_at (residual_with empty (seen_through w r) m flat).values seen.it) e)
 
-        go : (mesh ≡ 0) ⊎ (mesh ≡ 0 → ⊥) → (mesh ≡ 0) ⊎ ((is_defined r p ≡ false) ⊎ HasDefinedCells r flat mesh p)
-            → value_at (residual_of r mesh flat).values p ≡ value_at (residual_of (seen_through w r) mesh flat).values seen.it
+        go : (mesh ≡ 0) ⊎ (mesh ≡ 0 → ⊥) → (mesh ≡ 0) ⊎ ((is_defined r p ≡ false) ⊎ HaveNumbers empty r flat mesh p)
+            → value_at (residual_with empty r mesh flat).values p ≡ value_at (residual_with empty (seen_through w r) mesh flat).values seen.it
         go (inl e) c = without e
         go (inr n) (inl e) = without e
         go (inr n) (inr (inl d)) =
@@ -350,24 +370,24 @@ module _ (laws : BackgroundLaws) (r : Raster) (w : Window) (flat : Bool) (mesh :
             ∙ sym (residual_none (seen_through w r) seen.it below_there (ap (λ (o : Option ℤ). is_some o) seen_value ∙ d))
         go (inr n) (inr (inr c)) =
             let some : 0 < mesh = omega arith in
-            ap (value_at (residual_of r mesh flat).values) (sym seen.place)
-            ∙ sym (laws.seen r w flat mesh seen.it plane inside some (on some) seen.below
-            (subst (λ (x : ℕ). IsClear r w flat mesh x) (sym seen.place)
+            ap (value_at (residual_with empty r mesh flat).values) (sym seen.place)
+            ∙ sym (laws.seen empty r w flat mesh seen.it plane inside some (on some) seen.below
+            (subst (λ (x : ℕ). IsClear empty r w flat mesh x) (sym seen.place)
             (record { across = clear_across p sure.clear some; along = clear_down p sure.clear some; defined = c })))
 
-  pub shows_sure : Shows (residual_of r mesh flat) (residual_of (seen_through w r) mesh flat) w (is_sure r w flat mesh)
-  unfolding residual_of
+  pub shows_sure : Shows (residual_with empty r mesh flat) (residual_with empty (seen_through w r) mesh flat) w (is_sure empty r w flat mesh)
+  unfolding residual_with
   shows_sure = record {
     shape_is = seen-shape w r;
     inside = inside;
     shown = λ p l k. record {
       it = (seen p k).it;
-      below = subst (λ (n : ℕ). (seen p k).it < n) (sym (laws.one_each (seen_through w r) mesh flat seen_plane ∙ ap
+      below = subst (λ (n : ℕ). (seen p k).it < n) (sym (laws.one_each empty (seen_through w r) mesh flat seen_plane ∙ ap
           (λ (x : Shape). x.width * x.height) (seen-shape w r))) (seen p k).below;
       place = (seen p k).place;
       same = same_residual p k;
     };
   }
 
-  pub seen_residual_plane : IsPlane (residual_of (seen_through w r) mesh flat)
-  seen_residual_plane = laws.one_each (seen_through w r) mesh flat seen_plane
+  pub seen_residual_plane : IsPlane (residual_with empty (seen_through w r) mesh flat)
+  seen_residual_plane = laws.one_each empty (seen_through w r) mesh flat seen_plane

@@ -1,5 +1,5 @@
 -- Model: in which box of an image a window of it shows all on which the background of a pixel depends.
-use Rattle.std.specs.Prelude.{ℕ, ◌+◌, ◌-◌, ◌*◌, ◌/◌, ◌<◌, ◌≤◌, Bool, ◌||◌, ◌==◌, if◌then◌else◌, IsTrue}
+use Rattle.std.specs.Prelude.{◌≡◌, ℕ, ◌+◌, ◌-◌, ◌*◌, ◌/◌, ◌<◌, ◌≤◌, Bool, ◌||◌, ◌==◌, if◌then◌else◌, ℤ, Option, None, IsTrue}
 use Rattle.comp_tree.specs.declared.shape.Shape.{Shape}
 use Rattle.comp_tree.specs.Raster.{Raster, is_defined}
 use Rattle.comp_tree.specs.Windows.{Window, Box, in_whole, is_in_box, seen_through}
@@ -43,8 +43,9 @@ pub record IsBoxWithin (outer inner : Box) : Type 0 where
   pub bottom : inner.bottom ≤ outer.bottom
 
 -- a box of the image in which the background of each pixel with a value is the same in the window: it lies in the clear box, and each cell
--- on which such a pixel depends has a pixel with a value in the window. (With a flat background the second is always so.)
-pub record IsSureBox (r : Raster) (w : Window) (flat : Bool) (mesh : ℕ) (box : Box) : Type 0 where
+-- on which such a pixel depends has a pixel with a value in the window, or a number is given for those that haven't. (With a flat background
+-- the second is always so.)
+pub record IsSureBox (empty : Option ℤ) (r : Raster) (w : Window) (flat : Bool) (mesh : ℕ) (box : Box) : Type 0 where
   pub clear : IsBoxWithin (clear_box flat mesh r.shape w) box
-  pub defined : (q : ℕ) → 0 < mesh → IsTrue (is_in_box r.shape.width box (in_whole r.shape.width w q)) → IsTrue (is_defined (seen_through w r) q)
-      → HasDefinedCellsIn (seen_through w r) w flat mesh q
+  pub defined : empty ≡ None → (q : ℕ) → 0 < mesh → IsTrue (is_in_box r.shape.width box (in_whole r.shape.width w q))
+      → IsTrue (is_defined (seen_through w r) q) → HasDefinedCellsIn (seen_through w r) w flat mesh q

@@ -83,5 +83,5 @@ BoxesTellTheCore = (s : Raster) (connect : Connect) (h : ℤ) (whole : Shape) (w
 abbrev pub KnownCoresAreAnswered : Type 0
 KnownCoresAreAnswered = (d : DetectionChoice) (r : Raster) (t : Piece) (core box : Box) → IsInside r.shape t.window
     → (0 < d.mesh → IsOnMesh d.mesh t.window) → ((p : ℕ) → IsTrue (t.core p) → IsTrue (is_in_box r.shape.width core p))
-    → ((p : ℕ) → IsTrue (t.core p) → LiesInSureBox r t.window d.flat d.mesh p) → IsSureBox r t.window d.flat d.mesh box
+    → ((p : ℕ) → IsTrue (t.core p) → LiesInSureBox d.empty r t.window d.flat d.mesh p) → IsSureBox d.empty r t.window d.flat d.mesh box
     → KnowsItsCore (searched d (seen_through t.window r)) d.connect d.choice.threshold r.shape t.window core box → AnswersForCore d r t

@@ -1,14 +1,15 @@
 -- Model: the law of pieces, for an image as detection is given it.
-use Rattle.std.specs.Prelude.{◌≡◌, ℕ, ◌+◌, ◌<◌, ◌↔◌, Bool, true, pos, ◌≤ℤ◌, List, Contains, Some, slice_get, slice_index}
+use Rattle.std.specs.Prelude.{◌≡◌, ℕ, ◌+◌, ◌<◌, ◌↔◌, Bool, true, ℤ, pos, ◌≤ℤ◌, List, Contains, Option, Some, slice_get, slice_index}
 use Rattle.comp_tree.specs.declared.shape.Connect.{Connect}
 use Rattle.comp_tree.specs.Raster.{Raster, IsPlane}
 use Rattle.comp_tree.specs.Windows.{Window, Box, seen_through}
+use Rattle.mesh_background.specs.Laws.{IsOwnMedian}
 use Rattle.mesh_background.specs.Windows.{IsOnMesh}
 use Rattle.source_pick.specs.declared.choice.Choice.{Choice}
 use Rattle.source_pick.specs.declared.catalogue.CatRow.{CatRow}
 use Rattle.source_pick.specs.Catalogue.{catalogue}
 use Rattle.tile_laws.specs.Clear.{clear_box, window_box, IsBoxWithin, IsSureBox}
-use Rattle.tile_laws.specs.Pieces.{DetectionChoice, Piece, detected, AnswersForCore, without_mesh, ShowsItsCore, CoversImage, CoresAreApart, first_pixel}
+use Rattle.tile_laws.specs.Pieces.{DetectionChoice, Piece, detected, AnswersForCore, without_mesh, without_number, ShowsItsCore, CoversImage, CoresAreApart, first_pixel}
 use Rattle.tile_laws.specs.Pieces.{IsFromPiece, AreMerged, numbered_rows, mapped, IsMappedBy}
 use Rattle.tile_laws.specs.SecondImage.{measured, backed, MeasuresItsCore}
 
@@ -50,12 +51,22 @@ PiecesGiveTheMeasures = (d : DetectionChoice) (r values : Raster) (pieces : List
 
 -- with a flat background more is asked of no box than that it lies in the clear box
 abbrev pub FlatBoxesAreSure : Type 0
-FlatBoxesAreSure = (r : Raster) (w : Window) (mesh : ℕ) (box : Box) → (0 < mesh → IsOnMesh mesh w)
-    → IsBoxWithin (clear_box true mesh r.shape w) box → IsSureBox r w true mesh box
+FlatBoxesAreSure = (empty : Option ℤ) (r : Raster) (w : Window) (mesh : ℕ) (box : Box) → (0 < mesh → IsOnMesh mesh w)
+    → IsBoxWithin (clear_box true mesh r.shape w) box → IsSureBox empty r w true mesh box
+
+-- nor where a number is given for cells without a value
+abbrev pub BoxesAreSureWithNumber : Type 0
+BoxesAreSureWithNumber = (number : ℤ) (r : Raster) (w : Window) (flat : Bool) (mesh : ℕ) (box : Box)
+    → IsBoxWithin (clear_box flat mesh r.shape w) box → IsSureBox (Some number) r w flat mesh box
 
 -- and without a mesh, than that it lies in the window
 abbrev pub BoxesAreSureWithoutMesh : Type 0
-BoxesAreSureWithoutMesh = (r : Raster) (w : Window) (flat : Bool) (box : Box) → IsBoxWithin (window_box w) box → IsSureBox r w flat 0 box
+BoxesAreSureWithoutMesh = (empty : Option ℤ) (r : Raster) (w : Window) (flat : Bool) (box : Box) → IsBoxWithin (window_box w) box → IsSureBox empty r w flat 0 box
+
+-- where that number is the image's own median, what detection finds is what it finds without
+abbrev pub OwnMedianFindsTheSame : Type 0
+OwnMedianFindsTheSame = (d : DetectionChoice) (r : Raster) → IsOwnMedian d.empty r
+    → (detected d r ≡ detected (without_number d) r) × (mapped d r ≡ mapped (without_number d) r)
 
 -- without a mesh detection works on the image itself
 abbrev pub NoMeshDetectsInTheImage : Type 0

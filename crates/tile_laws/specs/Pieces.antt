@@ -1,13 +1,13 @@
 -- Model: an image in pieces. Detection runs over the window of each piece alone, and the rows whose first pixels lie in the piece's core
 -- are put together.
-use Rattle.std.specs.Prelude.{◌≡◌, ℕ, ◌+◌, ◌-◌, ◌*◌, ◌<◌, Bool, true, IsTrue, pos, unsigned_abs, List, map, Contains, Some, slice_get, slice_index}
+use Rattle.std.specs.Prelude.{◌≡◌, ℕ, ◌+◌, ◌-◌, ◌*◌, ◌<◌, Bool, true, IsTrue, ℤ, pos, unsigned_abs, Option, None, List, map, Contains, Some, slice_get, slice_index}
 use Rattle.std.specs.List.{enumerate_from}
 use Rattle.comp_tree.specs.declared.shape.Connect.{Connect}
 use Rattle.comp_tree.specs.declared.shape.Shape.{Shape}
 use Rattle.comp_tree.specs.Raster.{Raster, is_at_least}
 use Rattle.comp_tree.specs.Components.{IsReached}
 use Rattle.comp_tree.specs.Windows.{Window, IsInside, Box, in_whole, is_in_box, seen_through, IsDeepIn}
-use Rattle.mesh_background.specs.Residuals.{residual_of}
+use Rattle.mesh_background.specs.Residuals.{residual_with}
 use Rattle.mesh_background.specs.Windows.{IsOnMesh}
 use Rattle.source_pick.specs.declared.choice.Choice.{Choice}
 use Rattle.source_pick.specs.declared.catalogue.CatRow.{CatRow}
@@ -16,17 +16,18 @@ use Rattle.source_pick.specs.Segmentation.{segmentation}
 use Rattle.source_pick.specs.Catalogue.{moved_row}
 use Rattle.tile_laws.specs.Clear.{window_box, IsSureBox}
 
--- what detection is told: the size of the mesh (0: no background), whether the background is flat, the connectivity, and which nodes are
--- sources
+-- what detection is told: the size of the mesh (0: no background), whether the background is flat, the number of the mesh's cells without a
+-- value, if one is given, the connectivity, and which nodes are sources
 pub record DetectionChoice : Type 0 where
   pub mesh : ℕ
   pub flat : Bool
+  pub empty : Option ℤ
   pub connect : Connect
   pub choice : Choice
 
 -- the plane in which it finds sources: what is left of an image without its background
 abbrev pub searched : DetectionChoice → Raster → Raster
-searched d r = residual_of r d.mesh d.flat
+searched d r = residual_with d.empty r d.mesh d.flat
 
 -- and the catalogue that it makes of an image
 abbrev pub detected : DetectionChoice → Raster → List CatRow
@@ -44,16 +45,16 @@ pub record Piece : Type 0 where
 -- ---- which pieces answer for their cores
 
 -- pixel p of the image lies in a box in which the piece's background is the image's
-pub record LiesInSureBox (r : Raster) (w : Window) (flat : Bool) (mesh p : ℕ) : Type 0 where
+pub record LiesInSureBox (empty : Option ℤ) (r : Raster) (w : Window) (flat : Bool) (mesh p : ℕ) : Type 0 where
   pub box : Box
-  pub sure : IsSureBox r w flat mesh box
+  pub sure : IsSureBox empty r w flat mesh box
   pub there : IsTrue (is_in_box r.shape.width box p)
 
 -- Pixel q of the piece has at least the threshold. Its component there lies deep in a box in which the piece's background is the image's:
 -- with a pixel to spare, but for the image's own edges
 pub record HasSureBox (d : DetectionChoice) (r : Raster) (t : Piece) (q : ℕ) : Type 0 where
   pub box : Box
-  pub sure : IsSureBox r t.window d.flat d.mesh box
+  pub sure : IsSureBox d.empty r t.window d.flat d.mesh box
   pub deep : (b : ℕ) → IsReached (searched d (seen_through t.window r)) d.connect d.choice.threshold q b
       → IsDeepIn r.shape box (in_whole r.shape.width t.window b)
 
@@ -62,15 +63,20 @@ pub record HasSureBox (d : DetectionChoice) (r : Raster) (t : Piece) (q : ℕ) :
 pub record AnswersForCore (d : DetectionChoice) (r : Raster) (t : Piece) : Type 0 where
   pub inside : IsInside r.shape t.window
   pub on_mesh : 0 < d.mesh → IsOnMesh d.mesh t.window
-  pub core_sure : (p : ℕ) → IsTrue (t.core p) → LiesInSureBox r t.window d.flat d.mesh p
+  pub core_sure : (p : ℕ) → IsTrue (t.core p) → LiesInSureBox d.empty r t.window d.flat d.mesh p
   pub components : (q : ℕ) → IsTrue (t.core (in_whole r.shape.width t.window q))
       → IsTrue (is_at_least (searched d (seen_through t.window r)) d.choice.threshold q) → HasSureBox d r t q
+
+-- detection where no such number is given
+abbrev pub without_number : DetectionChoice → DetectionChoice
+without_number d = record d { empty = None }
 
 -- detection without a background
 abbrev pub without_mesh : Connect → Choice → DetectionChoice
 without_mesh connect choice = record {
   mesh = 0;
   flat = true;
+  empty = None;
   connect = connect;
   choice = choice;
 }

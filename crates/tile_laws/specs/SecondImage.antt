@@ -9,7 +9,8 @@ use Rattle.dual_measure.specs.Measures.{measure_of, back_of}
 use Rattle.tile_laws.specs.Clear.{IsSureBox}
 use Rattle.tile_laws.specs.Pieces.{DetectionChoice, Piece, searched}
 
--- the measure of source k of an image, counted from 0, in the values: a second image, less its own background
+-- the measure of source k of an image, counted from 0, in the values: a second image, less its own background. (A number that is given for cells
+-- without a value is one for both images.)
 abbrev pub measured : DetectionChoice → Raster → Raster → ℕ → Measure
 measured d r values k = measure_of (searched d values) (searched d r) d.connect (slice_index (sources (searched d r) d.connect d.choice) k)
 
@@ -20,7 +21,7 @@ backed d r values k = back_of (searched d values) (searched d r) d.connect (slic
 -- the component of the piece's pixel q at the threshold lies in a box in which the background of the values is theirs, too
 pub record HasMeasuredBox (d : DetectionChoice) (r values : Raster) (t : Piece) (q : ℕ) : Type 0 where
   pub box : Box
-  pub sure : IsSureBox values t.window d.flat d.mesh box
+  pub sure : IsSureBox d.empty values t.window d.flat d.mesh box
   pub holds : (b : ℕ) → IsReached (searched d (seen_through t.window r)) d.connect d.choice.threshold q b
       → IsTrue (is_in_box values.shape.width box (in_whole values.shape.width t.window b))
 

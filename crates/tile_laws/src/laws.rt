@@ -8,7 +8,9 @@ ghost use Rattle.tile_laws.specs.Laws.{
   PiecesCanBeMerged,
   RowsAreOnePieces,
   FlatBoxesAreSure,
+  BoxesAreSureWithNumber,
   BoxesAreSureWithoutMesh,
+  OwnMedianFindsTheSame,
   NoMeshDetectsInTheImage,
   PiecesGiveThePlanesCatalogue,
 };
@@ -40,10 +42,18 @@ pub fn pieces_give_the_catalogue()
     sources_of_tiles();
 }
 
-/// Which boxes are sure: with a flat background those in the clear box, and without a mesh those in the window.
+/// Which boxes are sure: with a flat background, and where a number is given for cells without a value, those in the
+/// clear box, and without a mesh those in the window.
 pub fn boxes_are_sure()
     ensures flat { FlatBoxesAreSure }
+    ensures number { BoxesAreSureWithNumber }
     ensures without { BoxesAreSureWithoutMesh }
+{}
+
+/// Where that number is the image's own median, detection finds what it finds without.
+#[tactic(auto, using(crate::proofs::Boxes::own_median_finds_the_same))]
+pub fn own_median_finds_the_same()
+    ensures { OwnMedianFindsTheSame }
 {}
 
 /// Without a mesh detection works on the image itself, and its catalogue is that of its windows.
