@@ -18,7 +18,7 @@ use Rattle.comp_tree.specs.declared.shape.Shape.{Shape}
 use Rattle.comp_tree.specs.Raster.{Raster, IsPlane}
 use Rattle.comp_tree.specs.Windows.{Window, IsInside, in_whole, seen_through}
 use Rattle.comp_tree.proofs.Exported.{IsAt, in_whole-at, length-pixels, row_below}
-use Rattle.mesh_background.specs.Residuals.{residual_of}
+use Rattle.mesh_background.specs.Residuals.{residual_with}
 use Rattle.mesh_background.specs.Laws.{ResidualIsPlane}
 use Rattle.source_pick.specs.declared.choice.Choice.{Choice}
 use Rattle.source_pick.specs.declared.catalogue.CatRow.{CatRow}
@@ -367,7 +367,7 @@ module _ (plane_law : ResidualIsPlane) (catalogue_law : PiecesGiveTheCatalogue) 
 
     -- and back
     number_from_mapped : IsMappedBy d r rows (piece_of width t) p k → number_from r.shape tiles t p ≡ Some (k + 1)
-    unfolding number_from residual_of
+    unfolding number_from residual_with
     number_from_mapped b =
         rw (in_frame) (ap (option_map (joined_number r.shape tiles)) (ap (λ (q : ℕ). row_of_number t (slice_index t.map.items q)) here ∙ row_is)
         ∙ ap Some (number_at_place k b.row b.at))
@@ -451,9 +451,9 @@ module _ (plane_law : ResidualIsPlane) (catalogue_law : PiecesGiveTheCatalogue) 
           gives = number_from_mapped t.index t.tile t.at p k (subst (λ (q : Piece). IsMappedBy d r rows q p k) (sym t.is) g.2)
 
   map_length : length (mapped d r) ≡ r.shape.width * r.shape.height
-  unfolding residual_of
+  unfolding residual_with
   map_length =
-      ap length (segmentation-is (searched d r) d.connect d.choice) ∙ length-map _ _ ∙ length-pixels (searched d r) ∙ plane_law r d.mesh d.flat plane
+      ap length (segmentation-is (searched d r) d.connect d.choice) ∙ length-map _ _ ∙ length-pixels (searched d r) ∙ plane_law d.empty r d.mesh d.flat plane
 
   same_map : joined_map r.shape tiles ≡ mapped d r
   unfolding joined_map
