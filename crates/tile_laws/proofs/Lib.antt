@@ -10,6 +10,7 @@ mod Depth
 mod Measured
 mod Backed
 mod Existing
+mod Final
 mod NodeBoxes
 mod Testing
 mod Opened
