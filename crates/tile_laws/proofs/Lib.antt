@@ -16,4 +16,5 @@ mod Testing
 mod Opened
 mod Fewer
 mod Local
+mod Unopened
 pub mod Exported
