@@ -34,7 +34,7 @@ use Rattle.tile_laws.proofs.Exported.{IsPlacedIn, placed_in, in_from_placed, IsS
 use Rattle.tile_join.specs.declared.tiles.TileCatalogue.{TileCatalogue}
 use Rattle.tile_join.specs.Tiles.{window_of, is_in_frame, is_frame_of, fits_tile, fits_image, AreJoinable}
 use Rattle.tile_join.specs.Joins.{rows_in_order, joined_rows, joined_number, row_of_number, in_window, number_from, number_joined_at, joined_map}
-use Rattle.tile_join.specs.Made.{own_rows, piece_of, known_piece_of, AreTilesMade}
+use Rattle.tile_join.specs.Made.{own_rows, known_piece_of, AreTilesMade}
 use Rattle.tile_join.specs.Laws.{JoinedTilesAreTheWhole}
 use Rattle.tile_join.proofs.Known.{all_known}
 use Rattle.tile_join.proofs.InOrder.{IsFromList, from_list, rows_rise, among_in_order, among_from_order}
@@ -153,6 +153,10 @@ core_rows whole t fits =
         (length t.map.items == t.window.shape.width * t.window.shape.height) (list_all (fits_tile whole t) t.rows.items) fits
 
 -- ---- tiles of one image
+
+-- the piece of an image with so many columns that a tile is
+abbrev piece_of : ℕ → TileCatalogue → Piece
+piece_of width t = record { window = window_of t.window; core = is_in_frame width t.core }
 
 module _ (plane_law : ResidualIsPlane) (catalogue_law : PiecesGiveTheCatalogue) (map_law : PiecesGiveTheMap) (parts_law : PartsOfCoresAreAnswered)
     (d : DetectionChoice) (r : Raster) (tiles : List TileCatalogue) (plane : IsPlane r) (made : AreTilesMade d r tiles) (good : AreJoinable r.shape tiles) where

@@ -16,15 +16,11 @@ use Rattle.tile_join.specs.Tiles.{window_of, is_in_frame}
 unfoldable pub own_rows : DetectionChoice → ℕ → Frame → Frame → Raster → List CatRow
 own_rows d width window core seen = filter (λ row. is_in_frame width core (first_pixel width row)) (map (moved_row (window_of window)) (detected d seen))
 
--- the piece of an image with so many columns that a tile is
-abbrev pub piece_of : ℕ → TileCatalogue → Piece
-piece_of width t = record { window = window_of t.window; core = is_in_frame width t.core }
-
 -- a pixel of an image with so many columns lies in the core and in none of the open boxes
 unfoldable pub is_known_of : ℕ → Frame → List Extent → ℕ → Bool
 is_known_of width core boxes p = is_in_frame width core p && not (list_any (λ e. is_in_box width (extent_box e) p) boxes)
 
--- the piece with these pixels of a tile's core alone
+-- the piece of an image with so many columns that a tile is, with these pixels alone as its core
 abbrev pub known_piece_of : ℕ → TileCatalogue → Piece
 known_piece_of width t = record { window = window_of t.window; core = is_known_of width t.core t.open.items }
 
