@@ -39,20 +39,26 @@ def changes(path):
     return found
 
 
+def overlap(one, other):
+    """Whether two edits change one text, or one a part of the other's."""
+    return any(
+        file == there and (old.strip() in text or text.strip() in old)
+        for file, old, _ in one
+        for there, text, _ in other
+    )
+
+
 def apart(edits):
     """Edits in groups of which no two change one text, so that each group can be tried at once."""
     groups = []
     for name, made in edits.items():
-        places = {(file, old) for file, old, _ in made}
-        for group in groups:
-            if not places & group["places"]:
-                break
+        free = (group for group in groups if not any(overlap(made, edits[other]) for other in group))
+        group = next(free, None)
+        if group is None:
+            groups.append([name])
         else:
-            group = {"names": [], "places": set()}
-            groups.append(group)
-        group["names"].append(name)
-        group["places"] |= places
-    return [group["names"] for group in groups]
+            group.append(name)
+    return groups
 
 
 def apply(folder, made):

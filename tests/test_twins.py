@@ -21,6 +21,11 @@ def test_twins_of_one_place_are_tried_apart():
     assert twins.apart(edits) == [["one", "three"], ["two"]]
 
 
+def test_twins_of_a_text_and_of_a_part_of_it_are_tried_apart():
+    edits = {"one": [("a", "    f(x, y)", "    f({ x }, y)")], "two": [("a", "f(x, y)", "f(x, { y })")]}
+    assert twins.apart(edits) == [["one"], ["two"]]
+
+
 def test_a_text_that_stands_twice_is_no_place(tmp_path):
     (tmp_path / "a.rt").write_text("x\nx\n")
     with pytest.raises(SystemExit):

@@ -10,8 +10,8 @@ use Rattle.source_pick.specs.Catalogue.{cells_of}
 use Rattle.tree_products.specs.Catalogues.{hdus, catalogue_cells, detected_hdus}
 use Rattle.tile_laws.specs.Pieces.{DetectionChoice, Piece, searched, detected, mapped, AnswersForCore}
 use Rattle.tile_join.specs.declared.tiles.TileCatalogue.{TileCatalogue}
-use Rattle.tile_join.specs.Tiles.{window_of, is_in_frame}
-use Rattle.tile_join.specs.Made.{own_rows, piece_of, IsTileMade}
+use Rattle.tile_join.specs.Tiles.{window_of}
+use Rattle.tile_join.specs.Made.{own_rows, is_known_of, known_piece_of, IsTileMade}
 
 -- a tile with the same parts as one that is made of an image is made of it
 pub made_same : (d : DetectionChoice) (r : Raster) (t u : TileCatalogue) → t.whole ≡ u.whole → t.window ≡ u.window → t.core ≡ u.core
@@ -22,13 +22,14 @@ made_same d r t u whole window core boxes rows numbers made = record {
   rows = rows ∙ made.rows ∙ ap (λ f. own_rows d r.shape.width f u.core (seen_through (window_of f) r)) (sym window)
       ∙ ap (λ f. own_rows d r.shape.width t.window f (seen_through (window_of t.window) r)) (sym core);
   map = numbers ∙ made.map ∙ ap (λ f. mapped d (seen_through (window_of f) r)) (sym window);
-  answers = λ none. subst (λ (piece : Piece). AnswersForCore d r piece) (sym same_piece) (made.answers (sym boxes ∙ none));
+  answers = subst (λ (piece : Piece). AnswersForCore d r piece) (sym same_piece) made.answers;
 }
   where
-    same_piece : piece_of r.shape.width t ≡ piece_of r.shape.width u
+    same_piece : known_piece_of r.shape.width t ≡ known_piece_of r.shape.width u
     same_piece =
-        ap (λ f. record { window = window_of f; core = is_in_frame r.shape.width t.core }) window
-        ∙ ap (λ f. record { window = window_of u.window; core = is_in_frame r.shape.width f }) core
+        ap (λ f. record { window = window_of f; core = is_known_of r.shape.width t.core t.open.items }) window
+        ∙ ap (λ f. record { window = window_of u.window; core = is_known_of r.shape.width f t.open.items }) core
+        ∙ ap (λ bs. record { window = window_of u.window; core = is_known_of r.shape.width u.core bs }) boxes
 
 -- the catalogue and the map of an image are written as detection writes them
 pub written_of_image : (d : DetectionChoice) (r : Raster) (whole : Shape) (rows : List CatRow) (numbers : List ℕ) → whole ≡ r.shape

@@ -9,6 +9,7 @@ mod Numbers
 mod Listed
 mod Images
 mod InOrder
+mod Known
 mod Whole
 mod Sizes
 pub mod Exported

@@ -28,13 +28,15 @@ use Rattle.source_pick.proofs.Exported.{segmentation-is}
 use Rattle.tile_laws.specs.Clear.{window_box}
 use Rattle.tile_laws.specs.Pieces.{DetectionChoice, Piece, searched, detected, mapped, AnswersForCore, CoversImage, first_pixel, IsFromPiece, AreMerged}
 use Rattle.tile_laws.specs.Pieces.{IsMappedBy}
+use Rattle.tile_laws.specs.Final.{PartsOfCoresAreAnswered}
 use Rattle.tile_laws.specs.Laws.{PiecesGiveTheCatalogue, PiecesGiveTheMap}
 use Rattle.tile_laws.proofs.Exported.{IsPlacedIn, placed_in, in_from_placed, IsSeenAt, seen_at, IsImageOf, image_of, get_among, IsRowOf, row_of}
 use Rattle.tile_join.specs.declared.tiles.TileCatalogue.{TileCatalogue}
 use Rattle.tile_join.specs.Tiles.{window_of, is_in_frame, is_frame_of, fits_tile, fits_image, AreJoinable}
 use Rattle.tile_join.specs.Joins.{rows_in_order, joined_rows, joined_number, row_of_number, in_window, number_from, number_joined_at, joined_map}
-use Rattle.tile_join.specs.Made.{own_rows, piece_of, AreTilesMade}
+use Rattle.tile_join.specs.Made.{own_rows, known_piece_of, AreTilesMade}
 use Rattle.tile_join.specs.Laws.{JoinedTilesAreTheWhole}
+use Rattle.tile_join.proofs.Known.{all_known}
 use Rattle.tile_join.proofs.InOrder.{IsFromList, from_list, rows_rise, among_in_order, among_from_order}
 
 -- ---- lists
@@ -152,8 +154,12 @@ core_rows whole t fits =
 
 -- ---- tiles of one image
 
-module _ (plane_law : ResidualIsPlane) (catalogue_law : PiecesGiveTheCatalogue) (map_law : PiecesGiveTheMap) (d : DetectionChoice) (r : Raster)
-    (tiles : List TileCatalogue) (plane : IsPlane r) (made : AreTilesMade d r tiles) (good : AreJoinable r.shape tiles) where
+-- the piece of an image with so many columns that a tile is
+abbrev piece_of : ℕ → TileCatalogue → Piece
+piece_of width t = record { window = window_of t.window; core = is_in_frame width t.core }
+
+module _ (plane_law : ResidualIsPlane) (catalogue_law : PiecesGiveTheCatalogue) (map_law : PiecesGiveTheMap) (parts_law : PartsOfCoresAreAnswered)
+    (d : DetectionChoice) (r : Raster) (tiles : List TileCatalogue) (plane : IsPlane r) (made : AreTilesMade d r tiles) (good : AreJoinable r.shape tiles) where
   abbrev width : ℕ
   width = r.shape.width
 
@@ -185,7 +191,8 @@ module _ (plane_law : ResidualIsPlane) (catalogue_law : PiecesGiveTheCatalogue) 
   answers : (p : Piece) → Contains pieces p → AnswersForCore d r p
   answers p c =
       let k : IsOfTile p = of_tile p c in
-      subst (AnswersForCore d r) k.is ((made k.index k.tile k.at).answers (good.known k.index k.tile k.at))
+      subst (AnswersForCore d r) k.is (parts_law d r (known_piece_of width k.tile) (is_in_frame width k.tile.core) (made k.index k.tile k.at).answers
+      (λ q own. all_known width k.tile q (good.known k.index k.tile k.at) own))
 
   cover : CoversImage r.shape pieces
   cover p below =
@@ -465,8 +472,8 @@ module _ (plane_law : ResidualIsPlane) (catalogue_law : PiecesGiveTheCatalogue) 
       joined_length : length (joined_map r.shape tiles) ≡ r.shape.width * r.shape.height
       joined_length = length-map-range_with_len (number_joined_at r.shape tiles) 0 (r.shape.width * r.shape.height)
 
-pub joined_tiles_are_the_whole : ResidualIsPlane → PiecesGiveTheCatalogue → PiecesGiveTheMap → JoinedTilesAreTheWhole
-joined_tiles_are_the_whole plane_law catalogue_law map_law d r tiles plane made good = (
-  same_catalogue plane_law catalogue_law map_law d r tiles plane made good,
-  same_map plane_law catalogue_law map_law d r tiles plane made good,
+pub joined_tiles_are_the_whole : ResidualIsPlane → PiecesGiveTheCatalogue → PiecesGiveTheMap → PartsOfCoresAreAnswered → JoinedTilesAreTheWhole
+joined_tiles_are_the_whole plane_law catalogue_law map_law parts_law d r tiles plane made good = (
+  same_catalogue plane_law catalogue_law map_law parts_law d r tiles plane made good,
+  same_map plane_law catalogue_law map_law parts_law d r tiles plane made good,
 )

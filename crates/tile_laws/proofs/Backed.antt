@@ -27,20 +27,19 @@ use Rattle.source_pick.specs.Windows.{IsTileOf, IsFromTile}
 use Rattle.dual_measure.specs.Measures.{measure_over, measure_of, mean_of, around_node, back_of}
 use Rattle.source_pick.specs.Sources.{sources}
 use Rattle.source_pick.proofs.Exported.{first_inside}
-use Rattle.tile_laws.specs.Pieces.{DetectionChoice, Piece, searched, AnswersForCore, CoversImage, AreMerged}
+use Rattle.tile_laws.specs.Pieces.{DetectionChoice, Piece, searched, AnswersForCore, IsFromPiece}
 use Rattle.tile_laws.specs.Laws.{PiecesGiveTheMeasures}
-use Rattle.tile_laws.specs.SecondImage.{MeasuresItsCore}
+use Rattle.tile_laws.specs.SecondImage.{measured, backed, MeasuresItsCore}
 use Rattle.tile_laws.proofs.Shown.{source_pixel_high}
 use Rattle.tile_laws.proofs.Sure.{is_sure}
 use Rattle.tile_laws.proofs.Tiles.{tile_of}
-use Rattle.tile_laws.proofs.Merging.{IsSourceOfRow, source_of_row}
-use Rattle.tile_laws.proofs.Mapping.{MapLaws, whole, here_at, index_at}
+use Rattle.tile_laws.proofs.Merging.{plane_R as plane_of, IsSourceOfRow, source_of_row}
+use Rattle.tile_laws.proofs.Mapping.{MapLaws, here_at, index_at}
 use Rattle.tile_laws.proofs.Measured.{same_measure, tile_is, reached_values, measure_same}
 
 module _ (laws : MapLaws) (d : DetectionChoice) (r values : Raster) (pieces : List Piece) (plane : IsPlane r) (value_plane : IsPlane values)
     (same_shape : values.shape ≡ r.shape)
-    (cover : CoversImage r.shape pieces) (answers : (t : Piece) → Contains pieces t → AnswersForCore d r t) (rows : List CatRow)
-    (merged : AreMerged d r pieces rows)
+    (answers : (t : Piece) → Contains pieces t → AnswersForCore d r t)
     (t : Piece) (among : Contains pieces t) (measures : MeasuresItsCore d r values t) where
   abbrev R : Raster
   R = searched d r
@@ -61,10 +60,10 @@ module _ (laws : MapLaws) (d : DetectionChoice) (r values : Raster) (pieces : Li
   sure = is_sure d.empty r t.window d.flat d.mesh
 
   plane_R : IsPlane R
-  plane_R = whole laws d r pieces plane cover answers rows merged
+  plane_R = plane_of laws.tiles d r pieces plane answers
 
   tile : IsTileOf R d.connect d.choice (tile_of d r t)
-  tile = tile_is laws d r values pieces plane value_plane same_shape cover answers rows merged t among measures
+  tile = tile_is laws d r values pieces plane value_plane same_shape answers t among measures
 
   along : AlikeAlong R S d.connect h (AreSurePair R S t.window d.connect h sure)
   along = window_along R S t.window d.connect h sure plane_R tile.one_each tile.shows
@@ -207,7 +206,7 @@ module _ (laws : MapLaws) (d : DetectionChoice) (r values : Raster) (pieces : Li
       around_measure = same_measure V U IsPairInParent same (filter around_n (pixels R)) (filter around_m (pixels S)) around_paired
         where
           same : (p q : ℕ) → IsPairInParent p q → value_at V.values p ≡ value_at U.values q
-          same p q e = reached_values laws d r values pieces plane value_plane same_shape cover answers rows merged t among measures n m k p q e.pair.place
+          same p q e = reached_values laws d r values pieces plane value_plane same_shape answers t among measures n m k p q e.pair.place
               (below_from_defined R p (defined_from_at_least R h p e.pair.high))
               ((reaches-is_IsReached S d.connect h there q).0 (reaches_lower S d.connect h (level R (top_of R d.connect a)) there q low e.reached))
 
@@ -254,33 +253,45 @@ row_base : (r : Raster) (connect : Connect) (i n : ℕ) (w : Window) → (moved_
 unfolding moved_row catalogue_row measured_row
 row_base r connect i n w = refl
 
+module _ (laws : MapLaws) (d : DetectionChoice) (r values : Raster) (pieces : List Piece) (plane : IsPlane r) (value_plane : IsPlane values)
+    (same_shape : values.shape ≡ r.shape)
+    (answers : (t : Piece) → Contains pieces t → AnswersForCore d r t)
+    (t : Piece) (among : Contains pieces t) (measures : MeasuresItsCore d r values t)
+    (row : CatRow) (f : IsFromPiece d r t row) (k i : ℕ)
+    (at : slice_get (sources (searched d r) d.connect d.choice) k ≡ Some (source_of_row laws.tiles d r pieces plane answers t row among f).here)
+    (number : f.it.number ≡ pos (i + 1)) where
+  abbrev s : IsSourceOfRow laws.tiles d r pieces plane answers t row
+  s = source_of_row laws.tiles d r pieces plane answers t row among f
+
+  source_here : slice_index (sources (searched d r) d.connect d.choice) k ≡ s.here
+  source_here = get_or_from_slice_get (sources (searched d r) d.connect d.choice) k s.here 0 at
+
+  source_there : slice_index (sources (searched d (seen_through t.window r)) d.connect d.choice) i ≡ s.there
+  source_there =
+      let e : i + 1 ≡ s.index + 1 = index_at laws d r pieces plane answers t row among f (i + 1) number in
+      let j : s.index ≡ i = omega arith in
+      get_or_from_slice_get (sources (searched d (seen_through t.window r)) d.connect d.choice) i s.there 0
+      (subst (λ (x : ℕ). slice_get (sources (searched d (seen_through t.window r)) d.connect d.choice) x ≡ Some s.there) j s.at)
+
+  base : row.base ≡ base_of (tree_of (searched d r) d.connect) s.here
+  base =
+      ap (λ (x : CatRow). x.base) s.row_is ∙ row_base (searched d (seen_through t.window r)) d.connect (s.index + 1) s.there t.window
+      ∙ sym (same_base laws d r values pieces plane value_plane same_shape answers t among measures s.here s.there s.from)
+
+  -- the measure and the back of a piece's own row, which is source i of the piece and source k of the image
+  pub own_measures : (measured d r values k ≡ measured d (seen_through t.window r) (seen_through t.window values) i)
+      × (d.choice.threshold ≤ℤ row.base → backed d r values k ≡ backed d (seen_through t.window r) (seen_through t.window values) i)
+  own_measures = (
+    ap (measure_of (searched d values) (searched d r) d.connect) source_here
+        ∙ measure_same laws d r values pieces plane value_plane same_shape answers t among measures s.here s.there s.from
+        ∙ sym (ap (measure_of (searched d (seen_through t.window values)) (searched d (seen_through t.window r)) d.connect) source_there),
+    (λ low. ap (back_of (searched d values) (searched d r) d.connect) source_here
+        ∙ back_same laws d r values pieces plane value_plane same_shape answers t among measures s.here s.there s.from
+        (subst (λ (z : ℤ). d.choice.threshold ≤ℤ z) base low)
+        ∙ sym (ap (back_of (searched d (seen_through t.window values)) (searched d (seen_through t.window r)) d.connect) source_there)),
+  )
+
 pub pieces_give_the_measures : MapLaws → PiecesGiveTheMeasures
-pieces_give_the_measures laws d r values pieces rows t row f k i plane value_plane same_shape cover answers merged among measures at number = (
-  ap (measure_of (searched d values) (searched d r) d.connect) here
-      ∙ measure_same laws d r values pieces plane value_plane same_shape cover answers rows merged t among measures s.here s.there s.from
-      ∙ sym (ap (measure_of (searched d (seen_through t.window values)) (searched d (seen_through t.window r)) d.connect) there),
-  (λ low. ap (back_of (searched d values) (searched d r) d.connect) here
-      ∙ back_same laws d r values pieces plane value_plane same_shape cover answers rows merged t among measures s.here s.there s.from
-      (subst (λ (z : ℤ). d.choice.threshold ≤ℤ z) base low)
-      ∙ sym (ap (back_of (searched d (seen_through t.window values)) (searched d (seen_through t.window r)) d.connect) there)),
-)
-  where
-    s : IsSourceOfRow laws.tiles d r pieces plane cover answers t row
-    s = source_of_row laws.tiles d r pieces plane cover answers t row among f
-
-    here : slice_index (sources (searched d r) d.connect d.choice) k ≡ s.here
-    here =
-        get_or_from_slice_get (sources (searched d r) d.connect d.choice) k s.here 0
-        (here_at laws d r pieces plane cover answers rows merged t row among f k at)
-
-    there : slice_index (sources (searched d (seen_through t.window r)) d.connect d.choice) i ≡ s.there
-    there =
-        let e : i + 1 ≡ s.index + 1 = index_at laws d r pieces plane cover answers rows merged t row among f (i + 1) number in
-        let j : s.index ≡ i = omega arith in
-        get_or_from_slice_get (sources (searched d (seen_through t.window r)) d.connect d.choice) i s.there 0
-        (subst (λ (x : ℕ). slice_get (sources (searched d (seen_through t.window r)) d.connect d.choice) x ≡ Some s.there) j s.at)
-
-    base : row.base ≡ base_of (tree_of (searched d r) d.connect) s.here
-    base =
-        ap (λ (x : CatRow). x.base) s.row_is ∙ row_base (searched d (seen_through t.window r)) d.connect (s.index + 1) s.there t.window
-        ∙ sym (same_base laws d r values pieces plane value_plane same_shape cover answers rows merged t among measures s.here s.there s.from)
+pieces_give_the_measures laws d r values pieces rows t row f k i plane value_plane same_shape cover answers merged among measures at number =
+    own_measures laws d r values pieces plane value_plane same_shape answers t among measures row f k i
+    (here_at laws d r pieces plane cover answers rows merged t row among f k at) number

@@ -47,14 +47,14 @@ module _ (laws : MapLaws) (d : DetectionChoice) (r : Raster) (pieces : List Piec
   part t = searched d (seen_through t.window r)
 
   whole : IsPlane R
-  whole = plane_R laws.tiles d r pieces plane cover answers
+  whole = plane_R laws.tiles d r pieces plane answers
 
   -- the first pixel of a piece's row is that of its source in the image
   first_of_row : (t : Piece) (row : CatRow) (c : Contains pieces t) (f : IsFromPiece d r t row)
-      → first_pixel r.shape.width row ≡ (sums_of R d.connect (source_of_row laws.tiles d r pieces plane cover answers t row c f).here).first
+      → first_pixel r.shape.width row ≡ (sums_of R d.connect (source_of_row laws.tiles d r pieces plane answers t row c f).here).first
   unfolding residual_with
   first_of_row t row c f =
-      let s : IsSourceOfRow laws.tiles d r pieces plane cover answers t row = source_of_row laws.tiles d r pieces plane cover answers t row c f in
+      let s : IsSourceOfRow laws.tiles d r pieces plane answers t row = source_of_row laws.tiles d r pieces plane answers t row c f in
       ap (first_pixel r.shape.width) (s.row_is ∙ sym (s.from.moved.row (s.index + 1))) ∙ first_is R d.connect (s.index + 1) s.here
 
   -- two rows of one piece with one first pixel are one
@@ -67,11 +67,11 @@ module _ (laws : MapLaws) (d : DetectionChoice) (r : Raster) (pieces : List Piec
       ∙ ap (λ (m : ℕ). moved_row t.window (catalogue_row (part t) d.connect (u.index + 1) m)) same
       ∙ sym u.row_is
     where
-      s : IsSourceOfRow laws.tiles d r pieces plane cover answers t row
-      s = source_of_row laws.tiles d r pieces plane cover answers t row c f
+      s : IsSourceOfRow laws.tiles d r pieces plane answers t row
+      s = source_of_row laws.tiles d r pieces plane answers t row c f
 
-      u : IsSourceOfRow laws.tiles d r pieces plane cover answers t other
-      u = source_of_row laws.tiles d r pieces plane cover answers t other c g
+      u : IsSourceOfRow laws.tiles d r pieces plane answers t other
+      u = source_of_row laws.tiles d r pieces plane answers t other c g
 
       first : (sums_of (part t) d.connect s.there).first ≡ (sums_of (part t) d.connect u.there).first
       first = in_whole-one r.shape t.window (sums_of (part t) d.connect s.there).first (sums_of (part t) d.connect u.there).first (answers t c).inside
@@ -79,7 +79,7 @@ module _ (laws : MapLaws) (d : DetectionChoice) (r : Raster) (pieces : List Piec
 
       place : s.index ≡ u.index
       place =
-          same_place laws (part t) d.connect d.choice (tile laws.tiles d r pieces plane cover answers t c).one_each s.index u.index s.there u.there s.at u.at
+          same_place laws (part t) d.connect d.choice (tile laws.tiles d r pieces plane answers t c).one_each s.index u.index s.there u.there s.at u.at
           first
 
       same : s.there ≡ u.there
@@ -105,11 +105,11 @@ module _ (laws : MapLaws) (d : DetectionChoice) (r : Raster) (pieces : List Piec
   unfolding residual_with
   row_for n k = (row, record { piece = g.0; among = g.1.1.among; from = there.from; first = first })
     where
-      g : (t : Piece) × ((m : ℕ) × IsPiecesSource laws.tiles d r pieces plane cover answers t n m)
-      g = source_from laws.tiles d r pieces plane cover answers n k
+      g : (t : Piece) × ((m : ℕ) × IsPiecesSource laws.tiles d r pieces plane answers t n m)
+      g = source_from laws.tiles d r pieces plane answers cover n k
 
-      there : IsRowThere laws.tiles d r pieces plane cover answers g.0 n g.1.0
-      there = row_there laws.tiles d r pieces plane cover answers g.0 n g.1.0 g.1.1
+      there : IsRowThere laws.tiles d r pieces plane answers g.0 n g.1.0
+      there = row_there laws.tiles d r pieces plane answers g.0 n g.1.0 g.1.1
 
       row : CatRow
       row = moved_row g.0.window (catalogue_row (part g.0) d.connect (there.index + 1) g.1.0)
@@ -141,7 +141,7 @@ module _ (laws : MapLaws) (d : DetectionChoice) (r : Raster) (pieces : List Piec
 
       all : (t : Piece) (row : CatRow) → Contains pieces t → IsFromPiece d r t row → Contains made.0 row
       all t row c f =
-          let s : IsSourceOfRow laws.tiles d r pieces plane cover answers t row = source_of_row laws.tiles d r pieces plane cover answers t row c f in
+          let s : IsSourceOfRow laws.tiles d r pieces plane answers t row = source_of_row laws.tiles d r pieces plane answers t row c f in
           let i : (i : ℕ) × (slice_get (sources R d.connect d.choice) i ≡ Some s.here) =
           among_get s.here (sources R d.connect d.choice)
           (among_of s.here (sources R d.connect d.choice) ((laws.tiles.listed R d.connect d.choice s.here whole).1 (s.from.node, s.from.source))) in

@@ -8,5 +8,7 @@ pub use Rattle.tile_laws.proofs.Lists.{IsImageOf, image_of, get_among, rows_from
 pub use Rattle.tile_laws.proofs.Lists.{rising_equal}
 -- the box of a node lies in its plane
 pub use Rattle.tile_laws.proofs.NodeBoxes.{box_in}
+-- the test of a box in another one
+pub use Rattle.tile_laws.proofs.Testing.{within_test_is_exact}
 -- planes with the same pixels of at least the threshold have the same open boxes
 pub use Rattle.tile_laws.proofs.Local.{open_alike}

@@ -10,9 +10,11 @@ mod Depth
 mod Measured
 mod Backed
 mod Existing
+mod Final
 mod NodeBoxes
 mod Testing
 mod Opened
 mod Fewer
 mod Local
+mod Unopened
 pub mod Exported

@@ -135,7 +135,7 @@ order_there r s connect h n m a b alike c d l = go (cases_order m b)
 
 -- ---- the whole components, in pairs
 
-abbrev whole_numbers : Raster → Connect → ℤ → List ℕ
+abbrev pub whole_numbers : Raster → Connect → ℤ → List ℕ
 whole_numbers r connect h = filter (is_whole_node h (tree_of r connect).rows) (node_numbers r connect)
 
 partner : (r s : Raster) (connect : Connect) (h : ℤ) (n : ℕ) → IsPlane r → AlikeAbove r s h → IsAmong n (whole_numbers r connect h)
@@ -233,13 +233,13 @@ filter_both p q (x ∷ xs) = go (p x) (filter_both p q xs)
 -- ---- the open boxes
 
 module _ (r : Raster) (connect : Connect) (h : ℤ) (left top : ℕ) (whole : Shape) (core sure : Box) where
-  abbrev box_at : ℕ → Extent
+  abbrev pub box_at : ℕ → Extent
   box_at n = box_extent (node_box left top (sums_of r connect n))
 
-  abbrev is_loose : ℕ → Bool
+  abbrev pub is_loose : ℕ → Bool
   is_loose n = not (is_box_settled whole core sure (node_box left top (sums_of r connect n)))
 
-  by_numbers : open_extents h (tree_of r connect).rows (sums_in r connect) left top whole core sure ≡ map box_at (filter is_loose (whole_numbers r connect h))
+  pub by_numbers : open_extents h (tree_of r connect).rows (sums_in r connect) left top whole core sure ≡ map box_at (filter is_loose (whole_numbers r connect h))
   unfolding open_among sums_in
   by_numbers =
       ap (λ (es : List (ℕ × Sums)). map (λ e. box_extent (node_box left top e.1))

@@ -28,7 +28,7 @@ use Rattle.tile_laws.specs.Pieces.{DetectionChoice, Piece, searched, mapped, Ans
 use Rattle.tile_laws.specs.Pieces.{IsMappedBy}
 use Rattle.tile_laws.specs.Laws.{PiecesGiveTheMap}
 use Rattle.tile_laws.proofs.Lists.{get_among, rows_from, get_rows, row_at}
-use Rattle.tile_laws.proofs.Merging.{TileLaws, plane_R, tile, source_from, IsPiecesSource, IsRowThere, row_there, IsSourceOfRow, source_of_row}
+use Rattle.tile_laws.proofs.Merging.{TileLaws, plane_R, tile, source_from, IsPiecesSource, IsRowThere, row_there, IsSourceOfRow, source_of_row, place_of_row}
 use Rattle.tile_laws.proofs.Merging.{same_rows, first_is}
 use Rattle.tile_laws.proofs.Shown.{shown_pixel}
 use Rattle.tile_laws.proofs.Tiles.{tile_of}
@@ -159,6 +159,18 @@ moved_number : (w : Window) (row : CatRow) → (moved_row w row).number ≡ row.
 unfolding moved_row
 moved_number w row = refl
 
+module _ (laws : MapLaws) (d : DetectionChoice) (r : Raster) (pieces : List Piece) (plane : IsPlane r)
+    (answers : (t : Piece) → Contains pieces t → AnswersForCore d r t) where
+  -- the number of a piece's own row tells its place in the piece
+  pub index_at : (t : Piece) (row : CatRow) (c : Contains pieces t) (f : IsFromPiece d r t row) (i : ℕ) → f.it.number ≡ pos i
+      → i ≡ (source_of_row laws.tiles d r pieces plane answers t row c f).index + 1
+  index_at t row c f i e =
+      let s : IsSourceOfRow laws.tiles d r pieces plane answers t row = source_of_row laws.tiles d r pieces plane answers t row c f in
+      let k : pos i ≡ pos (s.index + 1) =
+      sym e ∙ sym (moved_number t.window f.it) ∙ ap (λ (x : CatRow). x.number) (sym f.moved ∙ s.row_is)
+      ∙ row_number (searched d (seen_through t.window r)) d.connect (s.index + 1) s.there t.window in
+      ap unsigned_abs k
+
 module _ (laws : MapLaws) (d : DetectionChoice) (r : Raster) (pieces : List Piece) (plane : IsPlane r) (cover : CoversImage r.shape pieces)
     (answers : (t : Piece) → Contains pieces t → AnswersForCore d r t) (rows : List CatRow) (merged : AreMerged d r pieces rows) where
   abbrev R : Raster
@@ -168,10 +180,10 @@ module _ (laws : MapLaws) (d : DetectionChoice) (r : Raster) (pieces : List Piec
   part t = searched d (seen_through t.window r)
 
   pub whole : IsPlane R
-  whole = plane_R laws.tiles d r pieces plane cover answers
+  whole = plane_R laws.tiles d r pieces plane answers
 
   pub piece : (t : Piece) → Contains pieces t → IsTileOf R d.connect d.choice (tile_of d r t)
-  piece t c = tile laws.tiles d r pieces plane cover answers t c
+  piece t c = tile laws.tiles d r pieces plane answers t c
 
   -- the source of the image that row k of the merged rows is
   record IsPlaced (k : ℕ) (row : CatRow) : Type 0 where
@@ -185,40 +197,29 @@ module _ (laws : MapLaws) (d : DetectionChoice) (r : Raster) (pieces : List Piec
     where
       there : slice_get (rows_from (catalogue_row R d.connect) 1 (sources R d.connect d.choice)) k ≡ Some (row_with_number (k + 1) row)
       there =
-          ap (λ (x : List CatRow). slice_get x k) (same_rows laws.tiles d r pieces plane cover answers rows merged) ∙ get_rows row_with_number 1 rows k row e
+          ap (λ (x : List CatRow). slice_get x k) (same_rows laws.tiles d r pieces plane answers cover rows merged) ∙ get_rows row_with_number 1 rows k row e
 
       g : (n : ℕ) × (slice_get (sources R d.connect d.choice) k ≡ Some n) × (catalogue_row R d.connect (k + 1) n ≡ row_with_number (k + 1) row)
       g = row_at (catalogue_row R d.connect) 1 (row_with_number (k + 1) row) (sources R d.connect d.choice) k there
 
   -- which is the source of the piece's row
   pub here_at : (t : Piece) (row : CatRow) (c : Contains pieces t) (f : IsFromPiece d r t row) (k : ℕ) → slice_get rows k ≡ Some row
-      → slice_get (sources R d.connect d.choice) k ≡ Some (source_of_row laws.tiles d r pieces plane cover answers t row c f).here
+      → slice_get (sources R d.connect d.choice) k ≡ Some (source_of_row laws.tiles d r pieces plane answers t row c f).here
   unfolding residual_with
   here_at t row c f k e = subst (λ (x : ℕ). slice_get (sources R d.connect d.choice) x ≡ Some s.here) same j.1
     where
-      s : IsSourceOfRow laws.tiles d r pieces plane cover answers t row
-      s = source_of_row laws.tiles d r pieces plane cover answers t row c f
+      s : IsSourceOfRow laws.tiles d r pieces plane answers t row
+      s = source_of_row laws.tiles d r pieces plane answers t row c f
 
       q : IsPlaced k row
       q = placed k row e
 
       j : (j : ℕ) × (slice_get (sources R d.connect d.choice) j ≡ Some s.here)
-      j = among_get s.here (sources R d.connect d.choice)
-          (among_of s.here (sources R d.connect d.choice) ((laws.tiles.listed R d.connect d.choice s.here whole).1 (s.from.node, s.from.source)))
+      j = place_of_row laws.tiles d r pieces plane answers t row c f
 
       same : j.0 ≡ k
       same = same_place laws R d.connect d.choice whole j.0 k s.here q.it j.1 q.at
           (sym (first_is R d.connect (s.index + 1) s.here) ∙ ap (first_pixel r.shape.width) (s.from.moved.row (s.index + 1) ∙ sym s.row_is) ∙ sym q.first)
-
-  -- and the number of the row tells its place in the piece
-  pub index_at : (t : Piece) (row : CatRow) (c : Contains pieces t) (f : IsFromPiece d r t row) (i : ℕ) → f.it.number ≡ pos i
-      → i ≡ (source_of_row laws.tiles d r pieces plane cover answers t row c f).index + 1
-  index_at t row c f i e =
-      let s : IsSourceOfRow laws.tiles d r pieces plane cover answers t row = source_of_row laws.tiles d r pieces plane cover answers t row c f in
-      let k : pos i ≡ pos (s.index + 1) =
-      sym e ∙ sym (moved_number t.window f.it) ∙ ap (λ (x : CatRow). x.number) (sym f.moved ∙ s.row_is)
-      ∙ row_number (part t) d.connect (s.index + 1) s.there t.window in
-      ap unsigned_abs k
 
   module _ (p k : ℕ) where
     there : slice_index (mapped d r) p ≡ k + 1 → (t : Piece) × Contains pieces t × IsMappedBy d r rows t p k
@@ -241,8 +242,8 @@ module _ (laws : MapLaws) (d : DetectionChoice) (r : Raster) (pieces : List Piec
         n : IsNamed laws R d.connect d.choice whole p k
         n = map_gives laws R d.connect d.choice whole p k e
 
-        g : (t : Piece) × ((m : ℕ) × IsPiecesSource laws.tiles d r pieces plane cover answers t n.it m)
-        g = source_from laws.tiles d r pieces plane cover answers n.it (get_among n.it (sources R d.connect d.choice) k n.at)
+        g : (t : Piece) × ((m : ℕ) × IsPiecesSource laws.tiles d r pieces plane answers t n.it m)
+        g = source_from laws.tiles d r pieces plane answers cover n.it (get_among n.it (sources R d.connect d.choice) k n.at)
 
         t : Piece
         t = g.0
@@ -250,7 +251,7 @@ module _ (laws : MapLaws) (d : DetectionChoice) (r : Raster) (pieces : List Piec
         m : ℕ
         m = g.1.0
 
-        is : IsPiecesSource laws.tiles d r pieces plane cover answers t n.it m
+        is : IsPiecesSource laws.tiles d r pieces plane answers t n.it m
         is = g.1.1
 
         seen : IsShown R (part t) t.window p
@@ -259,8 +260,8 @@ module _ (laws : MapLaws) (d : DetectionChoice) (r : Raster) (pieces : List Piec
         few : seen.it < t.window.shape.width * t.window.shape.height
         few = subst (λ (x : ℕ). seen.it < x) (piece t is.among).one_each seen.below
 
-        own : IsRowThere laws.tiles d r pieces plane cover answers t n.it m
-        own = row_there laws.tiles d r pieces plane cover answers t n.it m is
+        own : IsRowThere laws.tiles d r pieces plane answers t n.it m
+        own = row_there laws.tiles d r pieces plane answers t n.it m is
 
         row : CatRow
         row = moved_row t.window (catalogue_row (part t) d.connect (own.index + 1) m)
@@ -282,11 +283,11 @@ module _ (laws : MapLaws) (d : DetectionChoice) (r : Raster) (pieces : List Piec
     unfolding residual_with
     back t c b = map_from laws R d.connect d.choice whole p k s.here at holds
       where
-        s : IsSourceOfRow laws.tiles d r pieces plane cover answers t b.row
-        s = source_of_row laws.tiles d r pieces plane cover answers t b.row c b.from
+        s : IsSourceOfRow laws.tiles d r pieces plane answers t b.row
+        s = source_of_row laws.tiles d r pieces plane answers t b.row c b.from
 
         number : slice_index (mapped d (seen_through t.window r)) b.pixel ≡ s.index + 1
-        number = index_at t b.row c b.from (slice_index (mapped d (seen_through t.window r)) b.pixel) b.number
+        number = index_at laws d r pieces plane answers t b.row c b.from (slice_index (mapped d (seen_through t.window r)) b.pixel) b.number
 
         g : IsNamed laws (part t) d.connect d.choice (piece t c).one_each b.pixel s.index
         g = map_gives laws (part t) d.connect d.choice (piece t c).one_each b.pixel s.index number

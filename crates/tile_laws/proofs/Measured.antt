@@ -14,17 +14,17 @@ use Rattle.comp_tree.proofs.Exported.{rising_pixels_of, some_columns}
 use Rattle.mesh_background.specs.Residuals.{residual_with}
 use Rattle.node_sums.specs.Sums.{total, sums_of}
 use Rattle.source_pick.specs.declared.choice.Choice.{Choice}
-use Rattle.source_pick.specs.declared.catalogue.CatRow.{CatRow}
 use Rattle.source_pick.specs.Windows.{Tile, IsTileOf, IsFromTile}
 use Rattle.source_pick.proofs.Exported.{first_inside, length_paired, total_paired}
 use Rattle.dual_measure.specs.declared.values.Measure.{Measure}
 use Rattle.dual_measure.specs.Measures.{least_or_zero, greatest_or_zero, seen_of, missing_of, measure_over, measure_of}
-use Rattle.tile_laws.specs.Pieces.{DetectionChoice, Piece, searched, AnswersForCore, CoversImage, AreMerged}
+use Rattle.tile_laws.specs.Pieces.{DetectionChoice, Piece, searched, AnswersForCore}
 use Rattle.tile_laws.specs.SecondImage.{HasMeasuredBox, MeasuresItsCore}
 use Rattle.tile_laws.proofs.Sure.{is_sure, sure_in_box, shows_sure}
 use Rattle.tile_laws.proofs.Shown.{source_reached, source_pixel_high, shown_pixel}
 use Rattle.tile_laws.proofs.Tiles.{tile_of}
-use Rattle.tile_laws.proofs.Mapping.{MapLaws, whole, piece}
+use Rattle.tile_laws.proofs.Merging.{plane_R, tile}
+use Rattle.tile_laws.proofs.Mapping.{MapLaws}
 
 -- ---- measures over paired pixels
 
@@ -126,8 +126,7 @@ module _ (law : SureComponentsAreTheSame) (r : Raster) (connect : Connect) (choi
 
 module _ (laws : MapLaws) (d : DetectionChoice) (r values : Raster) (pieces : List Piece) (plane : IsPlane r) (value_plane : IsPlane values)
     (same_shape : values.shape ≡ r.shape)
-    (cover : CoversImage r.shape pieces) (answers : (t : Piece) → Contains pieces t → AnswersForCore d r t) (rows : List CatRow)
-    (merged : AreMerged d r pieces rows)
+    (answers : (t : Piece) → Contains pieces t → AnswersForCore d r t)
     (t : Piece) (among : Contains pieces t) (measures : MeasuresItsCore d r values t) where
   abbrev R : Raster
   R = searched d r
@@ -145,7 +144,7 @@ module _ (laws : MapLaws) (d : DetectionChoice) (r values : Raster) (pieces : Li
   inside_values = subst (λ (x : Shape). IsInside x t.window) (sym same_shape) (answers t among).inside
 
   pub tile_is : IsTileOf R d.connect d.choice (tile_of d r t)
-  tile_is = piece laws d r pieces plane cover answers rows merged t among
+  tile_is = tile laws.tiles d r pieces plane answers t among
 
   -- a pixel of the image that is sure in the values has the same value there
   value_same : (p q : ℕ) → in_whole values.shape.width t.window q ≡ p → p < length V.values → IsTrue (is_sure d.empty values t.window d.flat d.mesh p)
@@ -185,7 +184,7 @@ module _ (laws : MapLaws) (d : DetectionChoice) (r values : Raster) (pieces : Li
         below : p < length V.values
         below =
             let a : length V.values ≡ values.shape.width * values.shape.height = laws.tiles.background.one_each d.empty values d.mesh d.flat value_plane in
-            let b : length R.values ≡ r.shape.width * r.shape.height = whole laws d r pieces plane cover answers rows merged in
+            let b : length R.values ≡ r.shape.width * r.shape.height = plane_R laws.tiles d r pieces plane answers in
             let c : values.shape.width * values.shape.height ≡ r.shape.width * r.shape.height = ap (λ (x : Shape). x.width * x.height) same_shape in
             omega (arith, a, b, c, l)
 
@@ -198,4 +197,4 @@ module _ (laws : MapLaws) (d : DetectionChoice) (r values : Raster) (pieces : Li
     unfolding measure_of
     measure_same =
         same_measure V U (AreOfSource R S d.connect t.window n m) same_values (pixels_of R d.connect n) (pixels_of S d.connect m)
-        (pixels_paired laws.same_component R d.connect d.choice (tile_of d r t) n m (whole laws d r pieces plane cover answers rows merged) tile_is k)
+        (pixels_paired laws.same_component R d.connect d.choice (tile_of d r t) n m (plane_R laws.tiles d r pieces plane answers) tile_is k)

@@ -79,7 +79,7 @@ pub record TileLaws : Type 0 where
   pub each : EachSourceIsATiles
   pub own : OwnSourcesAreTheWholes
 
-module _ (laws : TileLaws) (d : DetectionChoice) (r : Raster) (pieces : List Piece) (plane : IsPlane r) (cover : CoversImage r.shape pieces)
+module _ (laws : TileLaws) (d : DetectionChoice) (r : Raster) (pieces : List Piece) (plane : IsPlane r)
     (answers : (t : Piece) → Contains pieces t → AnswersForCore d r t) where
   abbrev R : Raster
   R = searched d r
@@ -99,9 +99,9 @@ module _ (laws : TileLaws) (d : DetectionChoice) (r : Raster) (pieces : List Pie
     pub from : IsFromTile R d.connect d.choice (tile_of d r t) n m
 
   -- the tile of a source of the image
-  pub source_from : (n : ℕ) → IsAmong n (sources R d.connect d.choice) → (t : Piece) × ((m : ℕ) × IsPiecesSource t n m)
+  pub source_from : CoversImage r.shape pieces → (n : ℕ) → IsAmong n (sources R d.connect d.choice) → (t : Piece) × ((m : ℕ) × IsPiecesSource t n m)
   unfolding residual_with
-  source_from n k = (
+  source_from cover n k = (
     piece.it,
     (
       g.2.0,
@@ -237,7 +237,25 @@ module _ (laws : TileLaws) (d : DetectionChoice) (r : Raster) (pieces : List Pie
       n : (n : ℕ) × IsFromTile R d.connect d.choice (tile_of d r t) n e.it
       n = laws.own R d.connect d.choice (tile_of d r t) e.it plane_R (tile t k) own
 
-  module _ (rows : List CatRow) (merged : AreMerged d r pieces rows) where
+  -- its place among those of the image
+  pub place_of_row : (t : Piece) (row : CatRow) (k : Contains pieces t) (f : IsFromPiece d r t row)
+      → (j : ℕ) × (slice_get (sources R d.connect d.choice) j ≡ Some (source_of_row t row k f).here)
+  place_of_row t row k f =
+      let s : IsSourceOfRow t row = source_of_row t row k f in
+      among_get s.here (sources R d.connect d.choice)
+      (among_of s.here (sources R d.connect d.choice) ((laws.listed R d.connect d.choice s.here plane_R).1 (s.from.node, s.from.source)))
+
+  -- so the image's catalogue has the row there, with the number of the place
+  pub row_at_place : (t : Piece) (row : CatRow) (k : Contains pieces t) (f : IsFromPiece d r t row) (j : ℕ)
+      → slice_get (sources R d.connect d.choice) j ≡ Some (source_of_row t row k f).here → slice_get (detected d r) j ≡ Some (row_with_number (j + 1) row)
+  row_at_place t row k f j at =
+      let s : IsSourceOfRow t row = source_of_row t row k f in
+      let same : catalogue_row R d.connect (j + 1) s.here ≡ row_with_number (j + 1) row =
+      sym (ap (row_with_number (j + 1)) (s.row_is ∙ sym (s.from.moved.row (s.index + 1))) ∙ renumbered R d.connect (j + 1) (s.index + 1) s.here) in
+      ap (λ (rows : List CatRow). slice_get rows j) (catalogue-is R d.connect d.choice)
+      ∙ get_rows (catalogue_row R d.connect) 1 (sources R d.connect d.choice) j s.here at ∙ ap (λ (x : CatRow). Some x) same
+
+  module _ (cover : CoversImage r.shape pieces) (rows : List CatRow) (merged : AreMerged d r pieces rows) where
     abbrev rows_here : List CatRow
     rows_here = rows_from (catalogue_row R d.connect) 1 (sources R d.connect d.choice)
 
@@ -253,7 +271,7 @@ module _ (laws : TileLaws) (d : DetectionChoice) (r : Raster) (pieces : List Pie
         e = row_of (catalogue_row R d.connect) 1 y.it (sources R d.connect d.choice) y.among
 
         g : (t : Piece) × ((m : ℕ) × IsPiecesSource t e.it m)
-        g = source_from e.it (get_among e.it (sources R d.connect d.choice) e.index e.at)
+        g = source_from cover e.it (get_among e.it (sources R d.connect d.choice) e.index e.at)
 
         there_row : IsRowThere g.0 e.it g.1.0
         there_row = row_there g.0 e.it g.1.0 g.1.1
@@ -277,8 +295,7 @@ module _ (laws : TileLaws) (d : DetectionChoice) (r : Raster) (pieces : List Pie
         s = source_of_row t.0 y.it t.1 t.2
 
         j : (j : ℕ) × (slice_get (sources R d.connect d.choice) j ≡ Some s.here)
-        j = among_get s.here (sources R d.connect d.choice)
-            (among_of s.here (sources R d.connect d.choice) ((laws.listed R d.connect d.choice s.here plane_R).1 (s.from.node, s.from.source)))
+        j = place_of_row t.0 y.it t.1 t.2
 
         row : IsAmong (catalogue_row R d.connect (j.0 + 1) s.here) rows_here
         row =
@@ -323,4 +340,4 @@ module _ (laws : TileLaws) (d : DetectionChoice) (r : Raster) (pieces : List Pie
     same_catalogue = catalogue-is R d.connect d.choice ∙ same_rows
 
 pub pieces_give_the_catalogue : TileLaws → PiecesGiveTheCatalogue
-pieces_give_the_catalogue laws d r pieces rows plane cover answers merged = same_catalogue laws d r pieces plane cover answers rows merged
+pieces_give_the_catalogue laws d r pieces rows plane cover answers merged = same_catalogue laws d r pieces plane answers cover rows merged

@@ -40,13 +40,13 @@ least_from f k (q ∷ ps) few h =
     omega arith
 
 -- where a pixel of a node stands
-record IsInBox (r : Raster) (s : Sums) (p : ℕ) : Type 0 where
+pub record IsInBox (r : Raster) (s : Sums) (p : ℕ) : Type 0 where
   left : s.xmin ≤ p % r.shape.width + 1
   right : p % r.shape.width + 1 ≤ s.xmax
   top : s.ymin ≤ p / r.shape.width + 1
   bottom : p / r.shape.width + 1 ≤ s.ymax
 
-in_box : (r : Raster) (connect : Connect) (n p : ℕ) → is_in_node r connect n p ≡ true → IsInBox r (sums_of r connect n) p
+pub in_box : (r : Raster) (connect : Connect) (n p : ℕ) → is_in_node r connect n p ≡ true → IsInBox r (sums_of r connect n) p
 unfolding sums_of sums_over
 in_box r connect n p k = record {
   left = least_at_most (x_of r) (pixels_of r connect n) p there;
@@ -120,7 +120,7 @@ module _ (s : Raster) (whole : Shape) (w : Window) (core : Box) (e : Sums) (shap
   wide : s.shape.width ≡ w.shape.width
   wide = ap (λ (x : Shape). x.width) shape
 
-  meets : (q : ℕ) → IsInBox s e q → IsTrue (is_in_box whole.width core (in_whole whole.width w q)) → DoMeet core (node_box w.left w.top e)
+  pub meets : (q : ℕ) → IsInBox s e q → IsTrue (is_in_box whole.width core (in_whole whole.width w q)) → DoMeet core (node_box w.left w.top e)
   meets q b k = record {
     left = omega (arith, in_core.left, at.column, right);
     right = omega (arith, in_core.right, at.column, left);
@@ -146,7 +146,7 @@ module _ (s : Raster) (whole : Shape) (w : Window) (core : Box) (e : Sums) (shap
       bottom : q / w.shape.width + 1 ≤ e.ymax
       bottom = subst (λ (n : ℕ). q / n + 1 ≤ e.ymax) wide b.bottom
 
-  there : (q : ℕ) → IsInBox s e q → IsTrue (is_in_box whole.width (node_box w.left w.top e) (in_whole whole.width w q))
+  pub there : (q : ℕ) → IsInBox s e q → IsTrue (is_in_box whole.width (node_box w.left w.top e) (in_whole whole.width w q))
   there q b = in_from_placed whole.width (node_box w.left w.top e) (in_whole whole.width w q) (record {
     left = omega (arith, at.column, subst (λ (n : ℕ). e.xmin ≤ q % n + 1) wide b.left);
     right = omega (arith, at.column, subst (λ (n : ℕ). q % n + 1 ≤ e.xmax) wide b.right);
@@ -192,7 +192,7 @@ module _ (s : Raster) (connect : Connect) (h : ℤ) (q n : ℕ) (high : IsTrue (
           up : int_le (level s top) (level s m) ≡ true
           up = level_from_at_least s (level s top) m (reaches_end s connect (level s top) top m inside)
 
-  whole_at : IsWholeAt h (tree_of s connect).rows n
+  pub whole_at : IsWholeAt h (tree_of s connect).rows n
   whole_at = record { high = level_high; lowest = go (parent_of s connect top) (parent-of_node s connect n node) (parent-case s connect top) }
     where
       go : (m : ℕ) → parent_in (tree_of s connect).rows n ≡ m → ParentCase s connect top m

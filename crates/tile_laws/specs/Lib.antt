@@ -3,6 +3,7 @@ pub mod Clear
 pub mod Laws
 pub mod Extents
 pub mod SecondImage
+pub mod Final
 pub mod Knowing
 pub mod Opening
 pub mod Boxed

@@ -14,6 +14,7 @@ ghost use Rattle.tile_laws.specs.Laws.{
   NoMeshDetectsInTheImage,
   PiecesGiveThePlanesCatalogue,
 };
+ghost use Rattle.tile_laws.specs.Final.{PartsOfCoresAreAnswered, UnopenedPixelsAreAnswered, OwnRowsAreFinal, OwnMeasuresAreFinal};
 ghost use Rattle.tile_laws.specs.Knowing.{BoxesTellTheCore, KnownCoresAreAnswered};
 ghost use Rattle.tile_laws.specs.Opening.{WholeTestIsExact, MeetingTestIsExact, WithinTestIsExact, SettledTestIsExact};
 
@@ -26,12 +27,20 @@ use source_pick::laws::{sources_are_disjoint, sources_are_listed, sources_of_til
 /// pixels, and numbered. A pixel has the number of such a row in the image's segmentation map exactly where a piece's
 /// own map gives it this row. In a second image, seen through the same windows, a source has the measure that the piece
 /// gives it. Where no two cores share a pixel the rows can be put together so, and each is one row of one piece.
+///
+/// What one piece that answers for its core tells of it is final, whatever the other pieces are: its rows, their measures, and
+/// their backs where the base is at least the threshold. A piece
+/// with open components answers for the pixels of its core that lie in none of their boxes.
 pub fn pieces_give_the_catalogue()
     ensures catalogue { PiecesGiveTheCatalogue }
     ensures map { PiecesGiveTheMap }
     ensures measures { PiecesGiveTheMeasures }
     ensures merged { PiecesCanBeMerged }
     ensures one_piece { RowsAreOnePieces }
+    ensures parts { PartsOfCoresAreAnswered }
+    ensures unopened { UnopenedPixelsAreAnswered }
+    ensures own_rows { OwnRowsAreFinal }
+    ensures own_measures { OwnMeasuresAreFinal }
 {
     residual_is_a_plane();
     no_mesh_leaves_the_plane();

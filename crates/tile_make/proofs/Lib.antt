@@ -3,6 +3,5 @@ mod Marked
 mod Storing
 mod Exactly
 mod Moving
-mod Telling
 mod Made
 mod Places

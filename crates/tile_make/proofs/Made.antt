@@ -1,22 +1,25 @@
 -- A tile that tells what was found in a window's plane is one that is made of the image.
-use Rattle.std.proofs.Common.{◌≡◌, ℕ, ◌+◌, ◌*◌, ◌<◌, Bool, true, false, cond, List, [], ◌∷◌, length, map, refl, sym, ◌∙◌, ap, subst, arith, Option, Some, None}
-use Rattle.std.specs.Prelude.{IsTrue, IfSome, ℤ, filter}
-use Rattle.std.proofs.lemmas.Bool.{or_left, true≢false}
+use Rattle.std.proofs.Common.{◌≡◌, ℕ, ◌+◌, ◌*◌, ◌<◌, Bool, true, false, cond, not, List, [], ◌∷◌, length, map, refl, sym, ◌∙◌, ap, subst, arith, inl, Option, Some, None}
+use Rattle.std.specs.Prelude.{IsTrue, IfSome, ℤ, Contains, filter}
+use Rattle.std.specs.List.{list_any}
+use Rattle.std.proofs.lemmas.Bool.{and_parts, or_left, true≢false}
 use Rattle.std.proofs.lemmas.List.{length-map}
 use Rattle.std.proofs.lemmas.List.FromFn.{get_or-map-range_with_len, length-range_with_len}
 use Rattle.std.proofs.lemmas.Nat.{mul-add-lt}
 use Rattle.std.proofs.lemmas.Option.{same_Some}
-use Rattle.lemmas.proofs.Exported.{int_le_refl}
+use Rattle.lemmas.proofs.Exported.{any_from_among, among_of, contains_from_among}
 use Rattle.comp_tree.specs.declared.shape.Connect.{Connect}
 use Rattle.comp_tree.specs.declared.shape.Shape.{Shape}
 use Rattle.comp_tree.specs.Raster.{Raster, IsPlane, pixels, value_at, at_least, is_at_least, is_defined}
-use Rattle.comp_tree.specs.Windows.{Window, Box, IsInside, is_in_box, seen_through}
-use Rattle.comp_tree.proofs.Exported.{AlikeAbove, above_reached, below_from_defined, defined_from_at_least, reaches-is_IsReached, seen-length, seen-shape}
+use Rattle.comp_tree.specs.declared.tree.NodeRow.{NodeRow}
+use Rattle.comp_tree.specs.Windows.{Window, Box, IsInside, in_whole, is_in_box, seen_through}
+use Rattle.comp_tree.proofs.Exported.{AlikeAbove, below_from_defined, defined_from_at_least, seen-length, seen-shape}
 use Rattle.mesh_background.specs.Mesh.{cells_along, cell_count, mesh_cell_of}
 use Rattle.mesh_background.specs.Residuals.{residual_of}
 use Rattle.mesh_background.specs.Windows.{HasDefinedCellsIn}
 use Rattle.mesh_background.proofs.Exported.{residual_shape}
 use Rattle.comp_tree.specs.Components.{tree_of}
+use Rattle.node_sums.specs.declared.entry.Sums.{Sums}
 use Rattle.node_sums.specs.Sums.{sums_in}
 use Rattle.source_pick.specs.declared.choice.Choice.{Choice}
 use Rattle.source_pick.specs.declared.catalogue.CatRow.{CatRow}
@@ -26,19 +29,19 @@ use Rattle.source_pick.proofs.Exported.{shape-kept}
 use Rattle.tile_laws.specs.declared.extents.Extent.{Extent}
 use Rattle.tile_laws.specs.Clear.{clear_box, window_box, IsBoxWithin, IsSureBox}
 use Rattle.tile_laws.specs.Extents.{box_extent, extent_box}
-use Rattle.tile_laws.specs.Knowing.{KnowsItsCore}
+use Rattle.tile_laws.specs.Final.{LiesInABox}
 use Rattle.tile_laws.specs.Pieces.{DetectionChoice, Piece, searched, detected, mapped, first_pixel, AnswersForCore}
-use Rattle.tile_laws.specs.Opening.{holds_box}
-use Rattle.tile_laws.proofs.Exported.{IsPlacedIn, open_alike, placed_in, in_from_placed}
+use Rattle.tile_laws.specs.Opening.{holds_box, open_extents}
+use Rattle.tile_laws.proofs.Exported.{open_alike, within_test_is_exact}
 use Rattle.orders.specs.declared.words.Order.{Order}
 use Rattle.tile_join.specs.declared.tiles.Frame.{Frame}
 use Rattle.tile_join.specs.declared.tiles.TileCatalogue.{TileCatalogue}
 use Rattle.tile_join.specs.Tiles.{window_of, is_in_frame}
-use Rattle.tile_join.specs.Made.{own_rows, piece_of, IsTileMade}
+use Rattle.tile_join.specs.Made.{own_rows, is_known_of, known_piece_of, IsTileMade}
 use Rattle.tile_make.specs.declared.placing.TilePlace.{TilePlace}
 use Rattle.tile_make.specs.Placed.{window_of_place, detection_of}
 use Rattle.tile_make.specs.TileOf.{core_box, frame_at, left_open, own_of, sure_extent_of, IsTileOfWindow}
-use Rattle.tile_make.specs.Told.{MakingLaws, HasNoEmptyCell, IsPlacedWell, IsSureExtent, IsKnown, IsTold}
+use Rattle.tile_make.specs.Told.{MakingLaws, HasNoEmptyCell, IsPlacedWell, IsSureExtent, IsTold}
 
 -- ---- the plane that is kept
 
@@ -75,17 +78,6 @@ alike_kept s connect h = record {
             → value_at s.values p ≡ value_at (kept s connect h).values p
         go true e k = sym e
         go false e k = absurd (true≢false (sym k))
-
--- so a window's plane knows its core where the plane that is kept does
-knows_from_kept : (s : Raster) (connect : Connect) (h : ℤ) (whole : Shape) (w : Window) (core sure : Box)
-    → KnowsItsCore (kept s connect h) connect h whole w core sure → KnowsItsCore s connect h whole w core sure
-knows_from_kept s connect h whole w core sure knows q b in_core high path =
-    knows q b in_core (subst (λ v. at_least h v ≡ true) (alike.one q high) high)
-    ((reaches-is_IsReached (kept s connect h) connect h q b).0
-    (above_reached s (kept s connect h) connect h h q b alike (int_le_refl h) ((reaches-is_IsReached s connect h q b).1 path)))
-  where
-    alike : AlikeAbove s (kept s connect h) h
-    alike = alike_kept s connect h
 
 -- ---- the background
 
@@ -124,6 +116,20 @@ own_from place shape width frame core rows found d seen width_is core_is window_
     picked : ℕ → Frame → Window → List CatRow → List CatRow
     picked n c w xs = filter (λ row. is_in_frame n c (first_pixel n row)) (map (moved_row w) xs)
 
+-- the boxes that are left open of two planes with the same pixels of at least the threshold
+left_alike : (threshold : ℤ) (place : TilePlace) (sure : Option Extent) (connect : Connect) (r s : Raster) → IsPlane r → IsPlane s → AlikeAbove r s threshold
+    → left_open threshold place sure (tree_of r connect).rows (sums_in r connect) ≡ left_open threshold place sure (tree_of s connect).rows (sums_in s connect)
+unfolding left_open
+left_alike threshold place None connect r s one other alike = refl
+left_alike threshold place (Some sure) connect r s one other alike =
+    ap (λ (boxes : List Extent). cond (holds_box (extent_box sure) (core_box place)) boxes (box_extent (core_box place) ∷ []))
+    (open_alike r s connect threshold place.left place.top place.whole (core_box place) (extent_box sure) one other alike)
+
+left_open-none : (threshold : ℤ) (place : TilePlace) (rows : List NodeRow) (sums : List Sums)
+    → left_open threshold place None rows sums ≡ box_extent (core_box place) ∷ []
+unfolding left_open
+left_open-none threshold place rows sums = refl
+
 module _ (laws : MakingLaws) (order : Order) (choice : Choice) (place : TilePlace) (image k : Raster) (sure : Option Extent) (t : TileCatalogue)
     (well : IsPlacedWell place image.shape order.mesh)
     (sure_is : IfSome sure (λ box. IsSureExtent order.flat order.mesh image place box))
@@ -139,10 +145,6 @@ module _ (laws : MakingLaws) (order : Order) (choice : Choice) (place : TilePlac
 
   abbrev left : Raster
   left = residual_of image order.mesh order.flat
-
-  -- the piece that the tile is
-  abbrev piece : Piece
-  piece = record { window = w; core = is_in_frame r.shape.width place.core }
 
   inside : IsInside r.shape w
   inside = subst (λ (s : Shape). IsInside s w) (sym shape) well.inside
@@ -185,51 +187,94 @@ module _ (laws : MakingLaws) (order : Order) (choice : Choice) (place : TilePlac
             (subst (λ (s : Raster). HasNoEmptyCell s order.mesh) (sym seen) (is.full e some));
       }
 
+  abbrev known : ℕ → Bool
+  known = is_known_of r.shape.width t.core t.open.items
+
+  open_is : t.open.items ≡ left_open choice.threshold place sure (tree_of left order.connect).rows (sums_in left order.connect)
+  open_is =
+      told.open ∙ sym (left_alike choice.threshold place sure order.connect left k left_plane told.plane
+      (subst (λ (x : Raster). AlikeAbove left x choice.threshold) (sym k_is) (alike_kept left order.connect choice.threshold)))
+    where
+      left_plane : IsPlane left
+      left_plane = laws.residual image order.mesh order.flat image_plane
+
+  in_core : (p : ℕ) → IsTrue (known p) → IsTrue (is_in_box r.shape.width (core_box place) p)
+  unfolding is_known_of
+  in_core p own =
+      subst (λ (c : Frame). IsTrue (is_in_frame r.shape.width c p)) told.core
+      (and_parts (is_in_frame r.shape.width t.core p) (not (list_any (λ e. is_in_box r.shape.width (extent_box e) p) t.open.items)) own).0
+
+  -- such a pixel lies in none of the boxes
+  lies_in_none : (p : ℕ) → IsTrue (known p) → LiesInABox r.shape.width t.open.items p → ⊥
+  unfolding is_known_of
+  lies_in_none p own lies =
+      let none = (and_parts (is_in_frame r.shape.width t.core p) (not (list_any (λ e. is_in_box r.shape.width (extent_box e) p) t.open.items)) own).1 in
+      let some = any_from_among (λ e. is_in_box r.shape.width (extent_box e) p) lies.it t.open.items (among_of lies.it t.open.items lies.among) lies.there in
+      true≢false (sym none ∙ ap not some)
+
+  -- where the core's own box is left open there is none
+  none_known : t.open.items ≡ box_extent (core_box place) ∷ [] → (p : ℕ) → IsTrue (known p) → ⊥
+  none_known alone p own = lies_in_none p own (record {
+    it = box_extent (core_box place);
+    among = subst (λ (boxes : List Extent). Contains boxes (box_extent (core_box place))) (sym alone)
+        (contains_from_among (box_extent (core_box place)) (box_extent (core_box place) ∷ []) (inl refl));
+    there = in_core p own;
+  })
+
+  abbrev known_piece : Piece
+  known_piece = record { window = w; core = known }
+
+  nothing_known : ((p : ℕ) → IsTrue (known p) → ⊥) → AnswersForCore d r known_piece
+  nothing_known none = record {
+    inside = inside;
+    on_mesh = well.on_mesh;
+    core_sure = λ p own. absurd (none p own);
+    components = λ q own high. absurd (none (in_whole r.shape.width w q) own);
+  }
+
+  -- with a box in which the background is the image's
   answers_by : (extent : Extent) → IsSureExtent order.flat order.mesh image place extent
-      → IsBoxWithin (extent_box extent) (window_box (window_of place.core)) → KnowsItsCore left order.connect choice.threshold place.whole w
-      (window_box (window_of place.core)) (extent_box extent)
-      → AnswersForCore d r piece
-  answers_by extent is within knows =
-      laws.answered d r piece (window_box (window_of place.core)) (extent_box extent) inside well.on_mesh (λ p h. h)
-      (λ p h. record { box = extent_box extent; sure = box_sure extent is; there = in_sure p h }) (box_sure extent is)
-      (subst (λ (s : Shape). KnowsItsCore (searched d (seen_through w r)) order.connect choice.threshold s w (window_box (window_of place.core))
-      (extent_box extent)) (sym shape)
-      (subst (λ (s : Raster). KnowsItsCore (searched d s) order.connect choice.threshold place.whole w (window_box (window_of place.core)) (extent_box extent))
-      (sym seen) knows))
+      → t.open.items ≡ left_open choice.threshold place (Some extent) (tree_of left order.connect).rows (sums_in left order.connect)
+      → AnswersForCore d r known_piece
+  unfolding left_open
+  answers_by extent is boxes = by (holds_box (extent_box extent) (core_box place)) refl
     where
-      in_sure : (p : ℕ) → IsTrue (is_in_frame r.shape.width place.core p) → IsTrue (is_in_box r.shape.width (extent_box extent) p)
-      in_sure p h =
-          let e : IsPlacedIn r.shape.width (window_box (window_of place.core)) p = placed_in r.shape.width (window_box (window_of place.core)) p h in
-          in_from_placed r.shape.width (extent_box extent) p (record {
-            left = omega (arith, within.left, e.left);
-            right = omega (arith, within.right, e.right);
-            top = omega (arith, within.top, e.top);
-            bottom = omega (arith, within.bottom, e.bottom);
-          })
+      told_boxes : List Extent
+      told_boxes = open_extents choice.threshold (tree_of left order.connect).rows (sums_in left order.connect) place.left place.top place.whole
+          (core_box place) (extent_box extent)
 
-  answers_piece : t.open.items ≡ [] → AnswersForCore d r piece
-  answers_piece none =
-      answers_by known.extent (sure_at sure known.is sure_is) known.core
-      (knows_from_kept left order.connect choice.threshold place.whole w (window_box (window_of place.core)) (extent_box known.extent)
-      (subst (λ (x : Raster). KnowsItsCore x order.connect choice.threshold place.whole w (window_box (window_of place.core)) (extent_box known.extent)) k_is
-      (laws.boxes k order.connect choice.threshold place.whole w (window_box (window_of place.core)) (extent_box known.extent) k_plane k_shape well.inside
-      known.settled)))
+      boxes_of : (b : Bool) → holds_box (extent_box extent) (core_box place) ≡ b → t.open.items ≡ cond b told_boxes (box_extent (core_box place) ∷ [])
+      boxes_of b e = boxes ∙ ap (λ (x : Bool). cond x told_boxes (box_extent (core_box place) ∷ [])) e
+
+      by : (b : Bool) → holds_box (extent_box extent) (core_box place) ≡ b → AnswersForCore d r known_piece
+      by false e = nothing_known (none_known (boxes_of false e))
+      by true e =
+          laws.unopened d r known_piece (core_box place) (extent_box extent) plane inside well.on_mesh (box_sure extent is)
+          ((within_test_is_exact (extent_box extent) (core_box place)).0 e) in_core
+          (λ p own lies. lies_in_none p own (subst (λ (xs : List Extent). LiesInABox r.shape.width xs p) same_boxes lies))
+        where
+          same_boxes : open_extents choice.threshold (tree_of (searched d (seen_through w r)) order.connect).rows
+              (sums_in (searched d (seen_through w r)) order.connect) w.left w.top r.shape (core_box place) (extent_box extent) ≡ t.open.items
+          same_boxes =
+              ap (λ (s : Raster). open_extents choice.threshold (tree_of (searched d s) order.connect).rows (sums_in (searched d s) order.connect)
+              w.left w.top r.shape (core_box place) (extent_box extent)) seen
+              ∙ ap (λ (s : Shape). open_extents choice.threshold (tree_of left order.connect).rows (sums_in left order.connect) place.left place.top s
+              (core_box place) (extent_box extent)) shape
+              ∙ sym (boxes_of true e)
+
+  answers_known : AnswersForCore d r known_piece
+  answers_known = by sure refl sure_is
     where
-      known : IsKnown k order.connect choice place sure
-      known = told.known none
+      by : (o : Option Extent) → sure ≡ o → IfSome o (λ box. IsSureExtent order.flat order.mesh image place box) → AnswersForCore d r known_piece
+      by None e h = nothing_known (none_known (open_is
+          ∙ ap (λ (x : Option Extent). left_open choice.threshold place x (tree_of left order.connect).rows (sums_in left order.connect)) e
+          ∙ left_open-none choice.threshold place (tree_of left order.connect).rows (sums_in left order.connect)))
+      by (Some extent) e h =
+          answers_by extent h
+          (open_is ∙ ap (λ (x : Option Extent). left_open choice.threshold place x (tree_of left order.connect).rows (sums_in left order.connect)) e)
 
-      sure_at : (o : Option Extent) → o ≡ Some known.extent → IfSome o (λ box. IsSureExtent order.flat order.mesh image place box)
-          → IsSureExtent order.flat order.mesh image place known.extent
-      sure_at None e h = absurd cc
-      sure_at (Some x) e h = subst (λ (y : Extent). IsSureExtent order.flat order.mesh image place y) (same_Some x known.extent e) h
-
-      k_plane : IsPlane k
-      k_plane = subst IsPlane (sym k_is) (laws.kept left order.connect choice.threshold (laws.residual image order.mesh order.flat image_plane))
-
-  piece_is : piece ≡ piece_of r.shape.width t
-  piece_is =
-      ap (λ (v : Window). record { window = v; core = is_in_frame r.shape.width place.core }) (sym window_is)
-      ∙ ap (λ (c : Frame). record { window = window_of t.window; core = is_in_frame r.shape.width c }) (sym told.core)
+  piece_is : known_piece ≡ known_piece_of r.shape.width t
+  piece_is = ap (λ (v : Window). record { window = v; core = known }) (sym window_is)
 
   pub tile_made : IsTileMade d r t
   tile_made = record {
@@ -239,19 +284,10 @@ module _ (laws : MakingLaws) (order : Order) (choice : Choice) (place : TilePlac
         (seen_through (window_of t.window) r) (ap (λ (s : Shape). s.width) (sym shape)) told.core (ap window_of told.window) told.rows
         (sym same.rows ∙ found_is);
     map = told.map ∙ sym same.numbers ∙ ap (mapped d) (sym seen) ∙ ap (λ (v : Window). mapped d (seen_through v r)) (sym window_is);
-    answers = λ none. subst (AnswersForCore d r) piece_is (answers_piece none);
+    answers = subst (AnswersForCore d r) piece_is answers_known;
   }
 
 -- ---- the tile, told to the last number
-
--- the boxes that are left open of two planes with the same pixels of at least the threshold
-left_alike : (threshold : ℤ) (place : TilePlace) (sure : Option Extent) (connect : Connect) (r s : Raster) → IsPlane r → IsPlane s → AlikeAbove r s threshold
-    → left_open threshold place sure (tree_of r connect).rows (sums_in r connect) ≡ left_open threshold place sure (tree_of s connect).rows (sums_in s connect)
-unfolding left_open
-left_alike threshold place None connect r s one other alike = refl
-left_alike threshold place (Some sure) connect r s one other alike =
-    ap (λ (boxes : List Extent). cond (holds_box (extent_box sure) (core_box place)) boxes (box_extent (core_box place) ∷ []))
-    (open_alike r s connect threshold place.left place.top place.whole (core_box place) (extent_box sure) one other alike)
 
 pub tile_of_window : (order : Order) (choice : Choice) (place : TilePlace) (image k : Raster) (sure : Option Extent) (t : TileCatalogue)
     → sure ≡ sure_extent_of order.flat order.mesh place image → k ≡ kept (residual_of image order.mesh order.flat) order.connect choice.threshold

@@ -18,8 +18,8 @@ use Rattle.source_pick.specs.Segmentation.{segmentation}
 use Rattle.source_pick.specs.Locality.{KeptIsAPlane}
 use Rattle.tile_laws.specs.declared.extents.Extent.{Extent}
 use Rattle.tile_laws.specs.Clear.{clear_box, window_box, IsBoxWithin}
+use Rattle.tile_laws.specs.Final.{UnopenedPixelsAreAnswered}
 use Rattle.tile_laws.specs.Extents.{extent_box}
-use Rattle.tile_laws.specs.Knowing.{AreSettled, BoxesTellTheCore, KnownCoresAreAnswered}
 use Rattle.tile_laws.specs.Laws.{FlatBoxesAreSure}
 use Rattle.tile_join.specs.declared.tiles.TileCatalogue.{TileCatalogue}
 use Rattle.tile_join.specs.Tiles.{window_of}
@@ -54,14 +54,6 @@ pub record IsSureExtent (flat : Bool) (mesh : ℕ) (s : Raster) (place : TilePla
   pub box : extent_box sure ≡ clear_box flat mesh place.whole (window_of_place place s.shape)
   pub full : flat ≡ false → 0 < mesh → HasNoEmptyCell s mesh
 
--- nothing is open: the core lies in the sure box, and the whole components of the plane that meet it are settled
-pub record IsKnown (k : Raster) (connect : Connect) (choice : Choice) (place : TilePlace) (sure : Option Extent) : Type 0 where
-  pub extent : Extent
-  pub is : sure ≡ Some extent
-  pub core : IsBoxWithin (extent_box extent) (window_box (window_of place.core))
-  pub settled : AreSettled choice.threshold (tree_of k connect).rows (sums_in k connect) place.left place.top place.whole (window_box (window_of place.core))
-      (extent_box extent) (length (tree_of k connect).rows)
-
 -- the tile tells what was found in plane k
 pub record IsTold (k : Raster) (connect : Connect) (choice : Choice) (place : TilePlace) (sure : Option Extent) (t : TileCatalogue) : Type 0 where
   pub plane : IsPlane k
@@ -71,12 +63,10 @@ pub record IsTold (k : Raster) (connect : Connect) (choice : Choice) (place : Ti
   pub rows : t.rows.items ≡ own_of place k.shape (catalogue k connect choice)
   pub map : t.map.items ≡ segmentation k connect choice
   pub «open» : t.open.items ≡ left_open choice.threshold place sure (tree_of k connect).rows (sums_in k connect)
-  pub known : t.open.items ≡ [] → IsKnown k connect choice place sure
 
 -- the laws on which a tile stands
 pub record MakingLaws : Type 0 where
-  pub boxes : BoxesTellTheCore
-  pub answered : KnownCoresAreAnswered
+  pub unopened : UnopenedPixelsAreAnswered
   pub flat : FlatBoxesAreSure
   pub residual : ResidualIsPlane
   pub kept : KeptIsAPlane

@@ -27,7 +27,7 @@ use std::thread::Threads;
 use strip_crew::{Gate, component_tree};
 use tile_join::{Frame, TileCatalogue};
 use tile_laws::Extent;
-use tile_laws::laws::{boxes_are_sure, boxes_tell_the_core};
+use tile_laws::laws::{boxes_are_sure, pieces_give_the_catalogue};
 
 /// What came between: the place isn't one of a tile, or memory was refused.
 #[derive(Clone, Copy, PartialEq, Eq, Debug)]
@@ -70,7 +70,7 @@ pub fn make_tile<R: Threads + Sync, G: Gate>(
 fn laws_of_making()
     ensures { MakingLaws }
 {
-    boxes_tell_the_core();
+    pieces_give_the_catalogue();
     boxes_are_sure();
     residual_is_a_plane();
     kept_has_the_same_sources();

@@ -1,15 +1,14 @@
 //! Of which components a window may not know all.
 
-ghost use Rattle.std.specs.Prelude.{◌≡◌, ◌+◌, ◌<◌, ◌≤◌, ◌↔◌, ◌&&◌, nat_le, [], ◌∷◌, IfOk, IsTrue, length};
+ghost use Rattle.std.specs.Prelude.{◌≡◌, ◌+◌, ◌<◌, ◌≤◌, ◌↔◌, ◌&&◌, nat_le, ◌∷◌, [], IfOk, IsTrue, length};
 ghost use Rattle.std.specs.List.{All};
 ghost use Rattle.comp_tree.specs.Windows.{IsInside};
-ghost use Rattle.node_sums.specs.Sums.{AreTheTrees, ForEachPlaneOf};
+ghost use Rattle.node_sums.specs.Sums.{AreTheTrees};
 ghost use Rattle.tile_laws.specs.Clear.{IsBoxWithin};
 ghost use Rattle.tile_laws.specs.Extents.{extent_box};
 ghost use Rattle.tile_make.specs.Placed.{window_of_place};
 ghost use Rattle.tile_laws.specs.Opening.{holds_box, IsBoxOf};
 ghost use Rattle.tile_make.specs.TileOf.{core_box, left_open};
-ghost use Rattle.tile_make.specs.Told.{IsKnown};
 
 use crate::placing::{TilePlace, extent_of};
 use comp_tree::Tree;
@@ -36,8 +35,6 @@ pub(crate) fn open_of(
     ensures exact { IfOk result (λ boxes. boxes.items ≡ left_open choice.now.threshold place.now sure tree.now.rows sums.now) }
     ensures inside { IfOk result (λ boxes. All (λ found. IsBoxOf place.now.whole (extent_box found)) boxes.items) }
     ensures few { IfOk result (λ boxes. length boxes.items ≤ 2147483644) }
-    ensures known { IfOk result (λ boxes. boxes.items ≡ [] → ForEachPlaneOf tree.now sums.now
-        (λ plane connect. IsKnown plane connect choice.now place.now sure)) }
 {
     let core = extent_of(&place.core);
     let Some(known) = sure else {

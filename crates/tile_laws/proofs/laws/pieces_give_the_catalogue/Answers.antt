@@ -2,6 +2,8 @@ use Rattle.tile_laws.proofs.Merging.{pieces_give_the_catalogue}
 use Rattle.tile_laws.proofs.Mapping.{MapLaws, pieces_give_the_map}
 use Rattle.tile_laws.proofs.Existing.{pieces_can_be_merged, rows_are_one_pieces}
 use Rattle.tile_laws.proofs.Backed.{pieces_give_the_measures}
+use Rattle.tile_laws.proofs.Final.{parts_of_cores_are_answered, own_rows_are_final, own_measures_are_final}
+use Rattle.tile_laws.proofs.Unopened.{unopened_pixels_are_answered}
 use Rattle.tile_laws.proofs.laws.pieces_give_the_catalogue.Goals as goal
 
 pub returns : goal.returns
@@ -11,6 +13,10 @@ returns c = record {
   measures = pieces_give_the_measures laws;
   merged = pieces_can_be_merged laws;
   one_piece = rows_are_one_pieces laws;
+  parts = parts_of_cores_are_answered;
+  unopened = unopened_pixels_are_answered laws.tiles.background;
+  own_rows = own_rows_are_final laws.tiles;
+  own_measures = own_measures_are_final laws;
 }
   where
     laws : MapLaws

@@ -53,7 +53,6 @@ returns-clause-told g c =
       «open» = c.in_ok-open.ensures.exact
           ∙ ap (λ (t : ComponentTree). left_open choice.threshold place c.args.sure t.rows c.deref.result.now) tree
           ∙ ap (left_open choice.threshold place c.args.sure (tree_of plane connect).rows) (c.deref.ensures.value ∙ sums);
-      known = λ none. c.in_ok-open.ensures.known none plane connect tree (c.deref.ensures.value ∙ sums);
     }
 
 pub returns-clause-storable : goal.returns-clause-storable
