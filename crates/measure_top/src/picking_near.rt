@@ -1,19 +1,19 @@
 //! The sources of a plane, found in the tree of its pixels near those of at least the threshold: this tree is small. Why it serves, and why the
 //! measures need another one, stands in `cutting`.
-ghost use Rattle.std.specs.Prelude.{◌≡◌, ◌^◌, ◌<◌, ◌≤◌, length, IfOk, ◌≤ℤ◌};
+ghost use Rattle.std.specs.Prelude.{◌≡◌, ◌^◌, ◌<◌, ◌≤◌, length, map, IfOk, ◌≤ℤ◌};
 ghost use Rattle.comp_tree.specs.declared.shape.Connect.{Connect};
 ghost use Rattle.comp_tree.specs.Raster.{Raster};
 ghost use Rattle.comp_tree.specs.Components.{tree_of};
 ghost use Rattle.comp_tree.specs.Laws.{top_of};
-ghost use Rattle.node_sums.specs.Sums.{IsTreeOfPlane, AreTheTrees, ForEachPlaneOf};
+ghost use Rattle.node_sums.specs.Sums.{sums_of, IsTreeOfPlane, AreSumsOfNode, AreSumsOfNodes};
 ghost use Rattle.source_pick.specs.Catalogue.{catalogue_row, FitsColumns};
-ghost use Rattle.source_pick.specs.Segmentation.{AreDisjointNodes};
+ghost use Rattle.node_sums.specs.DisjointNodes.{AreDisjointNodes};
 ghost use Rattle.orders.specs.Words.{HasLimits};
 ghost use Rattle.measure_top.specs.Picks.{AreNodesOf, AreSourcesOf, HaveFittingRows, CanBeListed, HaveBasesFrom};
 
 use comp_tree::{Connect, Plane, Tree};
 use costs::OutOfMemory;
-use node_sums::{Sums, sums};
+use node_sums::Sums;
 use orders::Order;
 use source_pick::{CatRow, Choice, near, pick, row, segment_in_parts};
 use std::alloc::Global;
@@ -35,13 +35,13 @@ pub(crate) struct Picked {
 }
 
 // Node `n`, as source with this number.
-fn picked_node(tree: &Tree, sums: &[Sums], number: u32, n: u32) -> PickedNode
-    requires sums { AreTheTrees tree.now sums.now }
+fn picked_node(tree: &Tree, sums: &Sums, number: u32, n: u32) -> PickedNode
+    requires sums { AreSumsOfNode tree.now n sums.now }
     requires node { n < length tree.now.rows }
     requires from_one { 1 ≤ number }
     requires few { number ≤ 2147483647 }
-    ensures row { ForEachPlaneOf tree.now sums.now
-        (λ plane connect. result.row ≡ catalogue_row plane connect number n) }
+    ensures row { (plane : Raster) (connect : Connect) → tree.now ≡ tree_of plane connect
+        → sums.now ≡ sums_of plane connect n → result.row ≡ catalogue_row plane connect number n }
     ensures rep { (plane : Raster) (connect : Connect) → tree.now ≡ tree_of plane connect →
         result.rep ≡ top_of plane connect n }
     ensures columns { FitsColumns result.row }
@@ -52,17 +52,18 @@ fn picked_node(tree: &Tree, sums: &[Sums], number: u32, n: u32) -> PickedNode
     }
 }
 
-// These nodes, which are numbered from 1.
+// These nodes, by the sums of each; they are numbered from 1.
 fn picked_nodes(
     alloc: Global,
     tree: &Tree,
     sums: &[Sums],
     picked: &[u32],
 ) -> Result<Vec<PickedNode>, OutOfMemory>
-    requires sums { AreTheTrees tree.now sums.now }
+    requires sums { AreSumsOfNodes tree.now picked.now sums.now }
     requires disjoint { AreDisjointNodes tree.now picked.now }
-    ensures exact { IfOk result (λ nodes. ForEachPlaneOf tree.now sums.now
-        (λ plane connect. AreNodesOf plane connect picked.now nodes.items)) }
+    ensures exact { IfOk result (λ nodes. (plane : Raster) (connect : Connect) → tree.now ≡ tree_of plane connect
+        → sums.now ≡ map (sums_of plane connect) picked.now
+        → AreNodesOf plane connect picked.now nodes.items) }
     ensures few { IfOk result (λ nodes. length nodes.items ≤ 2147483647) }
     ensures fits { IfOk result (λ nodes. HaveFittingRows nodes.items) }
 {
@@ -71,7 +72,7 @@ fn picked_nodes(
         Err(_) => return Err(OutOfMemory),
     };
     for (place, n) in picked.iter().enumerate() {
-        let node = picked_node(tree, sums, place as u32 + 1, *n);
+        let node = picked_node(tree, &sums[place], place as u32 + 1, *n);
         match nodes.push(node) {
             Ok(_) => {}
             Err(_) => return Err(OutOfMemory),
@@ -98,10 +99,9 @@ fn pick_of_tree<R: Threads + Sync>(
         (λ picked. CanBeListed plane.now.shape picked.map.items picked.nodes.items) }
 {
     let _shape = plane.shape();
-    let sums = sums(alloc, plane, tree)?;
-    let picked = pick(alloc, tree, &sums, choice)?;
-    let map = segment_in_parts(rt, alloc, tree, &picked, workers)?;
-    let nodes = picked_nodes(alloc, tree, &sums, &picked)?;
+    let picked = pick(alloc, plane, tree, choice)?;
+    let map = segment_in_parts(rt, alloc, tree, &picked.nodes, workers)?;
+    let nodes = picked_nodes(alloc, tree, &picked.sums, &picked.nodes)?;
     Ok(Picked { map, nodes })
 }
 

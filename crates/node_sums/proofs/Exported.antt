@@ -33,3 +33,12 @@ pub use Rattle.node_sums.proofs.Fluxes.{never_negative, flux_grows}
 pub use Rattle.node_sums.proofs.FluxOfSums.{sums-flux, flux-is, base_up_to, base_within, trees_rows, length-sums_in}
 -- there is an outline for each row
 pub use Rattle.node_sums.proofs.OutlineFlux.{outlines_rows}
+-- ways upwards: which components lie within which, and levels along them; rows and nodes have the same numbers
+pub use Rattle.node_sums.proofs.Ways.{node_from_row, row_from_node, within_from_way, way_from_shared, way_from_within, way_trans, HasParent, way_up}
+pub use Rattle.node_sums.proofs.Ways.{way_of_child, way_smaller, level_on_way}
+-- a row's number is a node's; a list that is filled place by place, and a list of zeros
+pub use Rattle.node_sums.proofs.Marks.{node_inside, filled, zeros_replicate}
+-- a list of disjoint nodes is short, as a tree has few rows; the number of the listed node that holds a pixel, by that of its smallest node
+pub use Rattle.node_sums.proofs.Marks.{few_marked, few_rows, number_bound, number_of_defined, number_of_undefined}
+-- the sums of listed nodes: there is one for each, and which one stands at a place
+pub use Rattle.node_sums.proofs.Listing.{count_of_sums, sums_at, sums_of_one}

@@ -17,7 +17,7 @@ use Rattle.comp_tree.specs.Laws.{top_of}
 use Rattle.comp_tree.proofs.Exported.{bound_most, bound_of_sum, length-rows}
 use Rattle.comp_tree.specs.Limits.{value_bound}
 use Rattle.node_sums.specs.declared.entry.Sums.{Sums}
-use Rattle.node_sums.specs.Sums.{sums_over, sums_of, sums_in, AreTheTrees}
+use Rattle.node_sums.specs.Sums.{sums_over, sums_of, sums_in, AreTheTrees, AreSumsOfNode}
 use Rattle.node_sums.specs.Flux.{base_of, flux_of}
 use Rattle.node_sums.specs.Sizes.{IsUpTo, HasSizes, HasFluxSizes, level_bound, total_bound}
 use Rattle.node_sums.proofs.Sizes.{sizes, filtered_pixels, level_within, length-filter-le, up_to-times, up_to-minus, up_to_more}
@@ -136,6 +136,34 @@ flux_numbers tree sums n entry t g =
   where
     inside : n < length (nodes t.plane t.of_plane.connect)
     inside = omega (arith, slice_get_within sums n entry g, ap length t.of_plane.sums_are, length-sums_in t.plane t.of_plane.connect)
+
+-- ---- the sums of one node
+
+pub node_in_rows : (tree : ComponentTree) (n : ℕ) (entry : Sums) → (t : AreSumsOfNode tree n entry) → n < length tree.rows → n < length (nodes t.plane t.connect)
+node_in_rows tree n entry t h = omega (arith, h, ap (λ (x : ComponentTree). length x.rows) t.tree_is, length-rows t.plane t.connect)
+
+pub flux_by_sums : (r : Raster) (connect : Connect) (tree : ComponentTree) (n : ℕ) (entry : Sums) → tree ≡ tree_of r connect → entry ≡ sums_of r connect n
+    → entry.r -ℤ base_of tree n *ℤ pos entry.area ≡ flux_of r connect n
+flux_by_sums r connect tree n entry e f =
+    ap (λ (s : Sums). s.r -ℤ base_of tree n *ℤ pos s.area) f
+    ∙ ap (λ (t : ComponentTree). (sums_of r connect n).r -ℤ base_of t n *ℤ pos (sums_of r connect n).area) e
+    ∙ sums-flux r connect n
+
+pub flux_by_sums_not_negative : (tree : ComponentTree) (n : ℕ) (entry : Sums) → AreSumsOfNode tree n entry → n < length tree.rows
+    → pos 0 ≤ℤ (entry.r -ℤ base_of tree n *ℤ pos entry.area)
+flux_by_sums_not_negative tree n entry t h =
+    subst (λ (z : ℤ). pos 0 ≤ℤ z) (sym (flux_by_sums t.plane t.connect tree n entry t.tree_is t.sums_are))
+    (never_negative t.plane t.connect n t.one_each (node_in_rows tree n entry t h))
+
+pub flux_numbers_of_node : (tree : ComponentTree) (n : ℕ) (entry : Sums) → AreSumsOfNode tree n entry → n < length tree.rows
+    → HasFluxSizes entry.area entry.r (base_of tree n)
+flux_numbers_of_node tree n entry t h =
+    flux_sizes (length t.plane.values) entry (base_of tree n)
+    (subst HasSizes (sym t.sums_are) (node_sizes t.plane t.connect n t.one_each t.in_range))
+    (omega (arith, t.one_each, t.plane.shape.within_limits.few_pixels))
+    (subst (λ (s : Sums). s.area ≤ length t.plane.values) (sym t.sums_are) (node_area t.plane t.connect n))
+    (subst (λ (x : ComponentTree). IsUpTo (value_bound (length t.plane.values)) (base_of x n)) (sym t.tree_is)
+    (base_within t.plane t.connect n t.one_each t.in_range (node_in_rows tree n entry t h)))
 
 -- ---- as the code computes it, where `got` is the base
 

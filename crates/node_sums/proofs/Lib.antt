@@ -11,4 +11,7 @@ mod Fluxes
 mod FluxOfSums
 mod OutlineFlux
 mod OutlineSteps
+mod Ways
+mod Marks
+mod Listing
 pub mod Exported

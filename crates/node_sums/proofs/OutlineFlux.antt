@@ -1,6 +1,6 @@
 -- The outlines of a tree are parts of its sums, and the flux follows from either.
 use Rattle.std.proofs.Common.{◌≡◌, ℕ, ◌<◌, List, [], length, map, refl, sym, ◌∙◌, ap, subst, arith, get_or}
-use Rattle.std.specs.Prelude.{pos, ◌-ℤ◌, ◌*ℤ◌}
+use Rattle.std.specs.Prelude.{pos, ◌-ℤ◌, ◌*ℤ◌, ◌≤ℤ◌}
 use Rattle.std.proofs.lemmas.List.{length-map, get_or-map}
 use Rattle.std.proofs.lemmas.Option.{slice_get-get_or}
 use Rattle.comp_tree.specs.declared.shape.Connect.{Connect}
@@ -14,7 +14,7 @@ use Rattle.node_sums.specs.Sums.{sums_over, sums_in, AreTheTrees}
 use Rattle.node_sums.specs.Flux.{base_of, flux_of}
 use Rattle.node_sums.specs.Sizes.{HasFluxSizes}
 use Rattle.node_sums.specs.Outlines.{outline_of, outlines_in, AreOutlinesOfTree}
-use Rattle.node_sums.proofs.FluxOfSums.{length-sums_in, trees_rows, flux-is, flux_numbers}
+use Rattle.node_sums.proofs.FluxOfSums.{length-sums_in, trees_rows, flux-is, flux_numbers, flux_not_negative}
 
 -- the outline that is read is that of the sums
 pub outline_read : (outlines : List Outline) (sums : List Sums) (n : ℕ) (d : Outline) (e : Sums) → outlines ≡ map outline_of sums → n < length outlines
@@ -58,3 +58,13 @@ outlined_flux r connect tree outlines n d e f h =
   where
     inside : n < length (sums_in r connect)
     inside = omega (arith, ap (λ (t : ComponentTree). length t.rows) e, length-rows r connect, length-sums_in r connect)
+
+pub outlined_flux_not_negative : (tree : ComponentTree) (outlines : List Outline) (n : ℕ) (d : Outline) → AreOutlinesOfTree tree outlines → n < length tree.rows
+    → pos 0 ≤ℤ ((get_or outlines n d).r -ℤ base_of tree n *ℤ pos (get_or outlines n d).area)
+outlined_flux_not_negative tree outlines n d t h =
+    let sums : List Sums = sums_in t.plane t.of_plane.connect in
+    let none : Sums = sums_over t.plane [] in
+    let trees : AreTheTrees tree (sums_in t.plane t.of_plane.connect) = trees_sums tree outlines t in
+    subst (λ (o : Outline). pos 0 ≤ℤ (o.r -ℤ base_of tree n *ℤ pos o.area))
+    (sym (outline_read outlines sums n d none t.of_plane.outlines_are (omega (arith, outlines_rows tree outlines t, h))))
+    (flux_not_negative tree sums n (get_or sums n none) trees (slice_get-get_or sums n none (omega (arith, h, trees_rows tree sums trees))))

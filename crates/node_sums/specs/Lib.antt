@@ -8,3 +8,5 @@ pub mod Areas
 pub mod AreaPasses
 pub mod Outlines
 pub mod OutlinePasses
+pub mod DisjointNodes
+pub mod NodeNumbers

@@ -1,11 +1,11 @@
 -- Bookkeeping: sums over two sets of pixels that share none, made from the sums over each, and what the two passes have added so far.
-use Rattle.std.specs.Prelude.{◌≡◌, ℕ, ◌+◌, ◌*◌, ◌/◌, ◌%◌, ◌<◌, min, max, Bool, ◌&&◌, ◌==◌}
-use Rattle.std.specs.Prelude.{ℤ, pos, ◌+ℤ◌, ◌*ℤ◌, List, length, filter, slice_get, Some, slice_index}
+use Rattle.std.specs.Prelude.{◌≡◌, ℕ, ◌+◌, ◌*◌, ◌/◌, ◌%◌, ◌<◌, min, max, zero, suc, Bool, ◌&&◌, ◌==◌}
+use Rattle.std.specs.Prelude.{ℤ, pos, ◌+ℤ◌, ◌*ℤ◌, List, length, map, filter, slice_get, Some, slice_index}
 use Rattle.std.specs.Int.{int_max}
 use Rattle.std.specs.List.{range_with_len}
 use Rattle.comp_tree.specs.declared.shape.Connect.{Connect}
 use Rattle.comp_tree.specs.Raster.{Raster, is_defined, level, pixels}
-use Rattle.comp_tree.specs.ComponentTree.{ComponentTree}
+use Rattle.comp_tree.specs.ComponentTree.{ComponentTree, no_node}
 use Rattle.comp_tree.specs.Components.{tree_of}
 use Rattle.node_sums.specs.declared.entry.Sums.{Sums}
 use Rattle.node_sums.specs.Sums.{sums_over}
@@ -75,3 +75,12 @@ pub record AreOwn (r : Raster) (node_of ps : List ℕ) (sums : List Sums) : Type
 pub record AreOwnTo (r : Raster) (node_of : List ℕ) (n : ℕ) (sums : List Sums) : Type 0 where
   pub own : AreOwn r node_of (range_with_len 0 n) sums
   pub small : (q : ℕ) → q < n → IsUpTo (value_bound (length r.values)) (level r q)
+
+-- a place from the number that counts from 1; number 0 stands for none
+abbrev pub place_from : ℕ → ℕ
+place_from zero = no_node
+place_from (suc place) = place
+
+-- for each pixel the place of its smallest node, from the numbers of the nodes
+abbrev pub places_of : List ℕ → List ℕ → List ℕ
+places_of numbers node_of = map (λ n. place_from (slice_index numbers n)) node_of

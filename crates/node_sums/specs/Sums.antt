@@ -82,3 +82,21 @@ pub record AreTheTrees (tree : ComponentTree) (sums : List Sums) : Type 0 where
 abbrev pub ForEachPlaneOf : ComponentTree → List Sums → (Raster → Connect → Type 0) → Type 0
 ForEachPlaneOf tree sums Statement =
     (plane : Raster) (connect : Connect) → tree ≡ tree_of plane connect → sums ≡ sums_in plane connect → Statement plane connect
+
+-- the sums are those of node n of the tree: some plane has this tree for some connectivity, and the node these sums there
+pub record AreSumsOfNode (tree : ComponentTree) (n : ℕ) (sums : Sums) : Type 0 where
+  pub plane : Raster
+  pub connect : Connect
+  pub one_each : IsPlane plane
+  pub in_range : HasValuesInRange plane.values
+  pub tree_is : tree ≡ tree_of plane connect
+  pub sums_are : sums ≡ sums_of plane connect n
+
+-- the sums are those of the listed nodes of the tree, one for each
+pub record AreSumsOfNodes (tree : ComponentTree) (listed : List ℕ) (sums : List Sums) : Type 0 where
+  pub plane : Raster
+  pub connect : Connect
+  pub one_each : IsPlane plane
+  pub in_range : HasValuesInRange plane.values
+  pub tree_is : tree ≡ tree_of plane connect
+  pub sums_are : sums ≡ map (sums_of plane connect) listed

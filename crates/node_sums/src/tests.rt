@@ -1,7 +1,8 @@
 //! Small planes with their nodes, areas, sums and fluxes.
 
 ghost use Rattle.std.specs.Prelude.{◌<◌, length};
-ghost use Rattle.node_sums.specs.Sums.{AreTheTrees};
+ghost use Rattle.node_sums.specs.Outlines.{AreOutlinesOfTree};
+ghost use Rattle.node_sums.specs.Sums.{IsTreeOfPlane};
 
 use super::*;
 use comp_tree::{Connect, Plane, Shape, Tree, plain_tree};
@@ -19,7 +20,7 @@ struct Case<'a> {
     nodes: &'a [(i64, i64, i64)],
     areas: &'a [u32],
     // a node and its sums
-    node: usize,
+    node: u32,
     sums: Sums,
 }
 
@@ -33,15 +34,26 @@ fn plane_of(alloc: Global, shape: Shape, values: &[i64]) -> Result<Plane, Fail> 
 }
 
 // The level, the base and the flux of a node.
-fn measures(tree: &Tree, sums: &[Sums], n: u32) -> (i64, i64, i64)
+fn measures(tree: &Tree, outlines: &[Outline], n: u32) -> (i64, i64, i64)
     requires node { n < length tree.now.rows }
-    requires sums { AreTheTrees tree.now sums.now }
+    requires outlines { AreOutlinesOfTree tree.now outlines.now }
 {
     (
         tree.rows()[n as usize].level,
         base(tree, n),
-        flux(tree, sums, n),
+        flux_by_outlines(tree, outlines, n),
     )
+}
+
+// The sums of a node, and its flux by them.
+fn sums_of_one(alloc: Global, plane: &Plane, tree: &Tree, n: u32) -> Result<(Sums, i64), Fail>
+    requires tree { IsTreeOfPlane plane.now tree.now }
+    requires node { n < length tree.now.rows }
+{
+    plane.shape();
+    let found = sums_of_nodes(alloc, plane, tree, &[n])?;
+    let sums = found[0];
+    Ok((sums, flux(tree, &sums, n)))
 }
 
 #[test]
@@ -131,7 +143,7 @@ fn sums_and_fluxes_of_small_planes(rt: HostRuntime) -> Result<(), Fail> {
         let shape = Shape::of(case.width, case.height).ok_or("a shape")?;
         let plane = plane_of(rt.alloc(), shape, case.values)?;
         let tree = plain_tree(rt.alloc(), &plane, case.connect)?;
-        let found = sums(rt.alloc(), &plane, &tree)?;
+        let found = outlines(rt.alloc(), &plane, &tree)?;
         let areas = areas(rt.alloc(), &plane, &tree)?;
         let count = tree.rows().len();
         assert_eq!(rt; count, case.nodes.len(), "case {number}");
@@ -140,8 +152,10 @@ fn sums_and_fluxes_of_small_planes(rt: HostRuntime) -> Result<(), Fail> {
             let found = measures(&tree, &found, n as u32);
             assert_eq!(rt; found, case.nodes[n], "node {n} of case {number}");
         }
-        assert!(rt; case.node < found.len());
-        assert!(rt; found[case.node] == case.sums, "sums of case {number}");
+        assert!(rt; case.node < tree.node_count());
+        let one = sums_of_one(rt.alloc(), &plane, &tree, case.node)?;
+        assert!(rt; one.0 == case.sums, "sums of case {number}");
+        assert!(rt; one.1 == case.nodes[case.node as usize].2, "flux of case {number}");
         assert!(rt; areas.as_slice() == case.areas, "areas of case {number}");
     }
     Ok(())

@@ -5,7 +5,7 @@ pub use Rattle.source_pick.proofs.PassesReadings.{numbers-length, tree-shape}
 -- a node's parent is none, or a node
 pub use Rattle.source_pick.proofs.NodesSplits.{parent_cases}
 -- a tree has few rows, and a list of disjoint nodes is short
-pub use Rattle.source_pick.proofs.PassesMarks.{few_marked, few_rows}
+pub use Rattle.node_sums.proofs.Exported.{few_marked, few_rows}
 -- the plane that is kept has the same shape
 pub use Rattle.source_pick.proofs.LocalityKeeping.{shape-kept}
 -- the first pixel of a node lies in it

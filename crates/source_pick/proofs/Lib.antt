@@ -1,4 +1,3 @@
-mod NodesWithin
 mod NodesEntries
 mod NodesSplits
 mod NodesSourcing

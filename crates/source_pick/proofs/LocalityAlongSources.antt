@@ -17,8 +17,8 @@ use Rattle.node_sums.specs.Flux.{flux_of}
 use Rattle.node_sums.proofs.Exported.{level-of_node}
 use Rattle.source_pick.specs.declared.choice.Choice.{Choice}
 use Rattle.source_pick.specs.Sources.{is_large, is_lowest, is_entry, entry_of, has_contrast, is_strong, is_split, has_strong_sibling, contains_split, is_source}
-use Rattle.source_pick.specs.Passes.{IsOnWay}
-use Rattle.source_pick.proofs.NodesWithin.{within_from_way, way_from_within, way_of_child}
+use Rattle.node_sums.specs.NodeNumbers.{IsOnWay}
+use Rattle.node_sums.proofs.Exported.{within_from_way, way_from_within, way_of_child}
 use Rattle.source_pick.proofs.NodesEntries.{entry_parts, IsEntryOf, entry_of-parts, entry_of-found}
 use Rattle.source_pick.proofs.PassesStrong.{lowest_at_root, lowest_at_child}
 use Rattle.source_pick.proofs.NodesSplits.{HasEntry, strong_entry, strong-in, AreTwins, IsSplitNode, split_parts, split_from, HasSibling, sibling_parts}

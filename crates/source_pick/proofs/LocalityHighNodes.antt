@@ -13,8 +13,8 @@ use Rattle.comp_tree.proofs.Exported as Nodes
 use Rattle.node_sums.proofs.Exported.{level-of_node}
 use Rattle.source_pick.specs.declared.choice.Choice.{Choice}
 use Rattle.source_pick.specs.Sources.{is_entry, is_strong, is_split, has_strong_sibling, is_source}
-use Rattle.source_pick.specs.Passes.{IsOnWay}
-use Rattle.source_pick.proofs.NodesWithin.{level_on_way}
+use Rattle.node_sums.specs.NodeNumbers.{IsOnWay}
+use Rattle.node_sums.proofs.Exported.{level_on_way}
 use Rattle.source_pick.proofs.NodesEntries.{entry_parts, IsEntryOf, entry_of-parts}
 use Rattle.source_pick.proofs.NodesSplits.{HasEntry, strong_entry, IsSplitNode, split_parts, split_entry, sibling_parts}
 use Rattle.source_pick.proofs.NodesSourcing.{source_parts}

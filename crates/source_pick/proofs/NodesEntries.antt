@@ -13,9 +13,9 @@ use Rattle.comp_tree.proofs.Exported.{length-rows, below_no_node, within_from_te
 use Rattle.source_pick.specs.declared.choice.Choice.{Choice}
 use Rattle.source_pick.specs.Sources.{is_large, is_lowest, is_entry, entry_of}
 use Rattle.comp_tree.specs.Nesting.{node_numbers, level_of_node, lies_within}
-use Rattle.source_pick.specs.Passes.{IsOnWay}
+use Rattle.node_sums.specs.NodeNumbers.{IsOnWay}
 use Rattle.source_pick.specs.Laws.{EntriesAreDisjoint}
-use Rattle.source_pick.proofs.NodesWithin.{within_from_way, way_from_shared, way_from_within, HasParent, way_up, way_of_child, level_on_way}
+use Rattle.node_sums.proofs.Exported.{within_from_way, way_from_shared, way_from_within, HasParent, way_up, way_of_child, level_on_way, node_from_row, row_from_node}
 
 -- the parts of the definition
 pub record EntryParts (r : Raster) (connect : Connect) (choice : Choice) (n : ℕ) : Type 0 where
@@ -53,13 +53,6 @@ entry_parts r connect choice n h = record {
         → (parent_of_node r connect n ≡ no_node) ⊎ (level_of_node r connect (parent_of_node r connect n) <ℤ choice.threshold)
     split (inl e) = inl (eqb-true (parent_of_node r connect n) no_node e)
     split (inr l) = inr (int_lt-true (level_of_node r connect (parent_of_node r connect n)) choice.threshold l)
-
--- a number of a row is a node's, and is not `no_node`
-pub node_from_row : (r : Raster) (connect : Connect) (n : ℕ) → n < length (tree_of r connect).rows → n < length (nodes r connect)
-node_from_row r connect n h = let l : length (tree_of r connect).rows ≡ length (nodes r connect) = length-rows r connect in omega arith
-
-pub row_from_node : (r : Raster) (connect : Connect) (n : ℕ) → n < length (nodes r connect) → n < length (tree_of r connect).rows
-row_from_node r connect n h = let l : length (tree_of r connect).rows ≡ length (nodes r connect) = length-rows r connect in omega arith
 
 -- no entry lies strictly within another: the levels on the way to its parent are at least the threshold
 entries_not_nested : (r : Raster) (connect : Connect) (choice : Choice) (d e : ℕ) → IsPlane r → d < length (nodes r connect) → e < length (nodes r connect)

@@ -9,11 +9,12 @@ use Rattle.comp_tree.specs.Laws.{IsAncestor, parent, parent_of_node, IsNode, IsN
 use Rattle.source_pick.specs.declared.choice.Choice.{Choice}
 use Rattle.source_pick.specs.Sources.{is_entry, is_split, has_strong_sibling, contains_split, is_source}
 use Rattle.comp_tree.specs.Nesting.{lies_within}
-use Rattle.source_pick.specs.Passes.{IsOnWay}
+use Rattle.node_sums.specs.NodeNumbers.{IsOnWay}
 use Rattle.source_pick.specs.Laws.{SourcesAreDisjoint, EachEntryHoldsASource}
-use Rattle.source_pick.proofs.NodesWithin.{within_from_way, way_from_shared, way_from_within, way_trans, way_smaller, HasParent, way_up}
+use Rattle.node_sums.proofs.Exported.{within_from_way, way_from_shared, way_from_within, way_trans, way_smaller, HasParent, way_up}
 use Rattle.comp_tree.proofs.Exported.{within_from_test, test_from_within}
-use Rattle.source_pick.proofs.NodesEntries.{row_from_node, IsEntryOf, entry_of-parts, entry_same}
+use Rattle.node_sums.proofs.Exported.{row_from_node}
+use Rattle.source_pick.proofs.NodesEntries.{IsEntryOf, entry_of-parts, entry_same}
 use Rattle.source_pick.proofs.NodesSplits.{AreTwins, IsSplitNode, split_parts, HasEntry, strong_entry, HasSibling, sibling_parts, sibling_from_twins}
 use Rattle.source_pick.proofs.NodesSplits.{ContainsSplit, contains_parts, contains_from}
 

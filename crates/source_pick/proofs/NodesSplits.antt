@@ -16,9 +16,10 @@ use Rattle.source_pick.specs.declared.choice.Choice.{Choice}
 use Rattle.source_pick.specs.Sources.{is_large, entry_of, has_contrast, is_strong, share_entry, are_strong_children, is_split, has_strong_sibling}
 use Rattle.source_pick.specs.Sources.{contains_split}
 use Rattle.comp_tree.specs.Nesting.{node_numbers, lies_within}
-use Rattle.source_pick.specs.Passes.{IsOnWay}
-use Rattle.source_pick.proofs.NodesWithin.{within_from_way, way_from_within, HasParent, way_up}
-use Rattle.source_pick.proofs.NodesEntries.{row_from_node, IsEntryOf, entry_of-parts, entry_of-found, entry_of_child}
+use Rattle.node_sums.specs.NodeNumbers.{IsOnWay}
+use Rattle.node_sums.proofs.Exported.{within_from_way, way_from_within, HasParent, way_up}
+use Rattle.node_sums.proofs.Exported.{row_from_node}
+use Rattle.source_pick.proofs.NodesEntries.{IsEntryOf, entry_of-parts, entry_of-found, entry_of_child}
 
 -- ---- tests over all nodes
 

@@ -11,8 +11,9 @@ use Rattle.comp_tree.specs.Laws.{IsAncestor, parent, above}
 use Rattle.node_sums.proofs.Exported.{get-written}
 use Rattle.source_pick.specs.declared.splitting.StrongChildren.{StrongChildren}
 use Rattle.source_pick.specs.declared.splitting.StrongChildren.TheVariants.{Zero, One, Several}
-use Rattle.source_pick.specs.Passes.{IsStrongChild, HasStrongChildren, AreStrongChildCounts, with_one_more, IsOnWay, IsAboveSplit, ArePassed, AreAboveSplits}
-use Rattle.source_pick.proofs.NodesWithin.{way_trans}
+use Rattle.node_sums.specs.NodeNumbers.{IsOnWay}
+use Rattle.source_pick.specs.Passes.{IsStrongChild, HasStrongChildren, AreStrongChildCounts, with_one_more, IsAboveSplit, ArePassed, AreAboveSplits}
+use Rattle.node_sums.proofs.Exported.{way_trans}
 
 -- ---- counting
 

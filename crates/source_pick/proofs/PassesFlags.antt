@@ -14,30 +14,31 @@ use Rattle.comp_tree.specs.ComponentTree.{ComponentTree, parent_in, no_node}
 use Rattle.comp_tree.specs.Components.{nodes, tree_of}
 use Rattle.comp_tree.specs.Laws.{parent_of_node}
 use Rattle.comp_tree.proofs.Exported.{below_no_node}
-use Rattle.node_sums.specs.declared.entry.Sums.{Sums}
-use Rattle.node_sums.specs.Sums.{sums_in, AreTheTrees, ForEachPlaneOf}
-use Rattle.node_sums.proofs.Exported.{rows_are}
+use Rattle.node_sums.specs.declared.outline.Outline.{Outline}
+use Rattle.node_sums.specs.Outlines.{outlines_in, AreOutlinesOfTree, ForEachPlaneOutlined}
+use Rattle.node_sums.proofs.Exported.{rows_are, node_inside, filled}
 use Rattle.source_pick.specs.declared.choice.Choice.{Choice}
 use Rattle.source_pick.specs.declared.splitting.StrongChildren.{StrongChildren}
 use Rattle.source_pick.specs.declared.splitting.StrongChildren.TheVariants.{Zero, One, Several}
 use Rattle.source_pick.specs.Sources.{is_entry, entry_of, is_split, has_strong_sibling, contains_split, is_source}
 use Rattle.source_pick.specs.Passes.{entry_number, AreEntries, AreStrong, IsStrongChild, HasTwoStrongChildren, HasStrongChildren, AreStrongChildCounts}
-use Rattle.source_pick.specs.Passes.{are_several, IsOnWay, IsAboveSplit, AreAboveSplits, AreSources}
+use Rattle.node_sums.specs.NodeNumbers.{IsOnWay}
+use Rattle.source_pick.specs.Passes.{are_several, IsAboveSplit, AreAboveSplits, AreSources}
 use Rattle.source_pick.proofs.NodesEntries.{IsEntryOf, entry_of-parts, entry_of-self, entry_of-found, entry_of_child}
 use Rattle.source_pick.proofs.NodesSplits.{AreTwins, other_way, IsSplitNode, split_parts, split_from, split_entry, sibling_parts, sibling_from, ContainsSplit}
 use Rattle.source_pick.proofs.NodesSplits.{contains_parts, contains_from}
 use Rattle.source_pick.proofs.NodesSourcing.{source_from}
-use Rattle.source_pick.proofs.PassesReadings.{HasTreeAndSums, numbers-length, tree-shape, node_inside, filled}
+use Rattle.source_pick.proofs.PassesReadings.{HasTreeAndOutlines, numbers-length, tree-shape}
 use Rattle.source_pick.proofs.PassesStrong.{entry_from_number}
 
 -- ---- what the arrays say
 
 -- the arrays are those of the nodes
-pub record IsKnown (r : Raster) (connect : Connect) (choice : Choice) (tree : ComponentTree) (sums : List Sums) (entries : List ℕ) (strong : List Bool)
+pub record IsKnown (r : Raster) (connect : Connect) (choice : Choice) (tree : ComponentTree) (outlines : List Outline) (entries : List ℕ) (strong : List Bool)
     (children : List StrongChildren) (above : List Bool) : Type 0 where
-  pub of : HasTreeAndSums r connect tree sums
-  pub entries_are : AreEntries choice tree sums (length tree.rows) entries
-  pub strong_are : AreStrong choice tree sums (length tree.rows) strong
+  pub of : HasTreeAndOutlines r connect tree outlines
+  pub entries_are : AreEntries choice tree outlines (length tree.rows) entries
+  pub strong_are : AreStrong choice tree outlines (length tree.rows) strong
   pub children_are : AreStrongChildCounts tree.rows entries strong (length tree.rows) children
   pub above_are : AreAboveSplits tree.rows (map are_several children) above
 
@@ -64,9 +65,9 @@ flag-is [] m d h = absurd (omega arith)
 flag-is (x ∷ xs) zero d h = refl
 flag-is (x ∷ xs) (suc m) d h = flag-is xs m d (omega arith)
 
-module _ (r : Raster) (connect : Connect) (choice : Choice) (tree : ComponentTree) (sums : List Sums) (entries : List ℕ) (strong : List Bool)
+module _ (r : Raster) (connect : Connect) (choice : Choice) (tree : ComponentTree) (outlines : List Outline) (entries : List ℕ) (strong : List Bool)
     (children : List StrongChildren) (above : List Bool)
-    (k : IsKnown r connect choice tree sums entries strong children above) where
+    (k : IsKnown r connect choice tree outlines entries strong children above) where
   plane : IsPlane r
   plane = k.of.plane
 
@@ -81,7 +82,7 @@ module _ (r : Raster) (connect : Connect) (choice : Choice) (tree : ComponentTre
 
   entry_at : (m : ℕ) → m < length tree.rows → (slice_index entries m ≡ no_node → ⊥) → entry_of r connect choice m ≡ Some (slice_index entries m)
   entry_at m h some =
-      entry_from_number r connect choice m (slice_index entries m) plane (node m h) (k.entries_are.each r connect k.of.tree_is k.of.sums_are k.of.plane m h)
+      entry_from_number r connect choice m (slice_index entries m) plane (node m h) (k.entries_are.each r connect k.of.tree_is k.of.outlines_are k.of.plane m h)
       some
 
   inner_entry : (m a : ℕ) → m < length tree.rows → a < length tree.rows → IsStrongChild tree.rows entries strong m a
@@ -97,8 +98,8 @@ module _ (r : Raster) (connect : Connect) (choice : Choice) (tree : ComponentTre
     apart = λ e. absurd (omega arith);
     one_child = sym (child_of a) ∙ i.is_child;
     other_child = sym (child_of b) ∙ j.is_child;
-    one_strong = sym (k.strong_are.each r connect k.of.tree_is k.of.sums_are k.of.plane a ha) ∙ i.is_strong;
-    other_strong = sym (k.strong_are.each r connect k.of.tree_is k.of.sums_are k.of.plane b hb) ∙ j.is_strong;
+    one_strong = sym (k.strong_are.each r connect k.of.tree_is k.of.outlines_are k.of.plane a ha) ∙ i.is_strong;
+    other_strong = sym (k.strong_are.each r connect k.of.tree_is k.of.outlines_are k.of.plane b hb) ∙ j.is_strong;
     entry = slice_index entries m;
     one_entry = inner_entry m a hm ha i;
     other_entry = inner_entry m b hm hb j;
@@ -109,10 +110,10 @@ module _ (r : Raster) (connect : Connect) (choice : Choice) (tree : ComponentTre
   unfolding entry_number
   inner_from_twins m a b hm ha hb t = record {
     is_child = child_of a ∙ t.one_child;
-    is_strong = k.strong_are.each r connect k.of.tree_is k.of.sums_are k.of.plane a (row a ha) ∙ t.one_strong;
+    is_strong = k.strong_are.each r connect k.of.tree_is k.of.outlines_are k.of.plane a (row a ha) ∙ t.one_strong;
     has_entry = λ e. below_no_node r connect t.entry plane
         (entry_of-parts r connect choice m t.entry plane (node m hm) (split_entry r connect choice m a b plane (node m hm) ha hb t)).node
-        (sym (k.entries_are.each r connect k.of.tree_is k.of.sums_are k.of.plane m hm ∙ ap (λ (o : Option ℕ). unwrap_or o no_node)
+        (sym (k.entries_are.each r connect k.of.tree_is k.of.outlines_are k.of.plane m hm ∙ ap (λ (o : Option ℕ). unwrap_or o no_node)
         (split_entry r connect choice m a b plane (node m hm) ha hb t)) ∙ e);
   }
 
@@ -211,7 +212,7 @@ module _ (r : Raster) (connect : Connect) (choice : Choice) (tree : ComponentTre
   unfolding entry_number
   no_entry n h other =
       false_from_ne_true (is_entry r connect choice n)
-      (λ e. other (k.entries_are.each r connect k.of.tree_is k.of.sums_are k.of.plane n h ∙ ap (λ (o : Option ℕ). unwrap_or o no_node)
+      (λ e. other (k.entries_are.each r connect k.of.tree_is k.of.outlines_are k.of.plane n h ∙ ap (λ (o : Option ℕ). unwrap_or o no_node)
       (entry_of-self r connect choice n plane (node n h) e)))
 
   by_sibling : (n : ℕ) (b : Bool) → n < length tree.rows → slice_index_or above n false ≡ false → (slice_index entries n ≡ n → ⊥)
@@ -230,7 +231,7 @@ module _ (r : Raster) (connect : Connect) (choice : Choice) (tree : ComponentTre
       by_sibling n false h e other
       (sym (false_from_ne_true (has_strong_sibling r connect choice n)
       (λ s. true≢false (sym (sibling_parts r connect choice n plane (node n h) s).strong ∙ sym
-      (k.strong_are.each r connect k.of.tree_is k.of.sums_are k.of.plane n h) ∙ weak))))
+      (k.strong_are.each r connect k.of.tree_is k.of.outlines_are k.of.plane n h) ∙ weak))))
 
   pub exit_root : (n p : ℕ) → n < length tree.rows → slice_index_or above n false ≡ false → (slice_index entries n ≡ n → ⊥) → p ≡ parent_of_node r connect n
       → p ≡ no_node
@@ -249,7 +250,7 @@ module _ (r : Raster) (connect : Connect) (choice : Choice) (tree : ComponentTre
       there : is_split r connect choice p ≡ true → has_strong_sibling r connect choice n ≡ true
       there s = sibling_from r connect choice n plane (node n h) (record {
         node = subst (λ (x : ℕ). x < length (nodes r connect)) is_parent (node p (omega arith));
-        strong = sym (k.strong_are.each r connect k.of.tree_is k.of.sums_are k.of.plane n h) ∙ on;
+        strong = sym (k.strong_are.each r connect k.of.tree_is k.of.outlines_are k.of.plane n h) ∙ on;
         split = subst (λ (x : ℕ). is_split r connect choice x ≡ true) is_parent s;
       })
 
@@ -258,31 +259,31 @@ module _ (r : Raster) (connect : Connect) (choice : Choice) (tree : ComponentTre
 
 -- ---- the flags
 
-pub sources_none : (choice : Choice) (tree : ComponentTree) (sums : List Sums) (flags : List Bool) → length flags ≡ length tree.rows
-    → AreSources choice tree sums 0 flags
-sources_none choice tree sums flags l = record { one_each = l; each = λ r connect of_tree of_sums is_plane n h. absurd (omega arith) }
+pub sources_none : (choice : Choice) (tree : ComponentTree) (outlines : List Outline) (flags : List Bool) → length flags ≡ length tree.rows
+    → AreSources choice tree outlines 0 flags
+sources_none choice tree outlines flags l = record { one_each = l; each = λ r connect of_tree of_outlines is_plane n h. absurd (omega arith) }
 
-pub sources_more : (choice : Choice) (tree : ComponentTree) (sums : List Sums) (k : ℕ) (x : Bool) (flags : List Bool) → AreSources choice tree sums k flags
+pub sources_more : (choice : Choice) (tree : ComponentTree) (outlines : List Outline) (k : ℕ) (x : Bool) (flags : List Bool) → AreSources choice tree outlines k flags
     → k < length tree.rows
-    → ForEachPlaneOf tree sums (λ r connect. IsPlane r → x ≡ is_source r connect choice k) → AreSources choice tree sums (k + 1) (set flags k x)
-sources_more choice tree sums k x flags h inside here = record {
+    → ForEachPlaneOutlined tree outlines (λ r connect. IsPlane r → x ≡ is_source r connect choice k) → AreSources choice tree outlines (k + 1) (set flags k x)
+sources_more choice tree outlines k x flags h inside here = record {
   one_each = length-set flags k x ∙ h.one_each;
-  each = λ r connect of_tree of_sums is_plane. filled flags k x false (is_source r connect choice)
-      (let l : length flags ≡ length tree.rows = h.one_each in omega arith) (h.each r connect of_tree of_sums is_plane)
-      (here r connect of_tree of_sums is_plane);
+  each = λ r connect of_tree of_outlines is_plane. filled flags k x false (is_source r connect choice)
+      (let l : length flags ≡ length tree.rows = h.one_each in omega arith) (h.each r connect of_tree of_outlines is_plane)
+      (here r connect of_tree of_outlines is_plane);
 }
 
-pub sources_up_to : (choice : Choice) (tree : ComponentTree) (sums : List Sums) (j k : ℕ) (flags : List Bool) → AreSources choice tree sums k flags → j ≤ k
-    → AreSources choice tree sums j flags
-sources_up_to choice tree sums j k flags h l =
-    record { one_each = h.one_each; each = λ r connect of_tree of_sums is_plane n m. h.each r connect of_tree of_sums is_plane n (omega arith) }
+pub sources_up_to : (choice : Choice) (tree : ComponentTree) (outlines : List Outline) (j k : ℕ) (flags : List Bool) → AreSources choice tree outlines k flags → j ≤ k
+    → AreSources choice tree outlines j flags
+sources_up_to choice tree outlines j k flags h l =
+    record { one_each = h.one_each; each = λ r connect of_tree of_outlines is_plane n m. h.each r connect of_tree of_outlines is_plane n (omega arith) }
 
 -- ---- the plane
 
--- any plane with this tree and these sums
-pub of_same : (r : Raster) (connect : Connect) (tree : ComponentTree) (sums : List Sums) → AreTheTrees tree sums → tree ≡ tree_of r connect
-    → sums ≡ sums_in r connect → HasTreeAndSums r connect tree sums
-of_same r connect tree sums t e f = record { plane = plane; tree_is = e; sums_are = f }
+-- any plane with this tree and these outlines
+pub of_same : (r : Raster) (connect : Connect) (tree : ComponentTree) (outlines : List Outline) → AreOutlinesOfTree tree outlines → tree ≡ tree_of r connect
+    → outlines ≡ outlines_in r connect → HasTreeAndOutlines r connect tree outlines
+of_same r connect tree outlines t e f = record { plane = plane; tree_is = e; outlines_are = f }
   where
     plane : IsPlane r
     plane =
@@ -291,11 +292,11 @@ of_same r connect tree sums t e f = record { plane = plane; tree_is = e; sums_ar
 
 -- ---- as the code answers
 
-pub flags_exact : {E : Type 0} (result : Result (Vec Bool Global) E) (choice : Choice) (tree : ComponentTree) (sums : List Sums) (entries : List ℕ)
+pub flags_exact : {E : Type 0} (result : Result (Vec Bool Global) E) (choice : Choice) (tree : ComponentTree) (outlines : List Outline) (entries : List ℕ)
     (strong : List Bool)
-    → AreEntries choice tree sums (length tree.rows) entries → AreStrong choice tree sums (length tree.rows) strong
-    → IfOk result (λ flags. (c : Choice) (s : List Sums) → AreEntries c tree s (length tree.rows) entries → AreStrong c tree s (length tree.rows) strong
+    → AreEntries choice tree outlines (length tree.rows) entries → AreStrong choice tree outlines (length tree.rows) strong
+    → IfOk result (λ flags. (c : Choice) (s : List Outline) → AreEntries c tree s (length tree.rows) entries → AreStrong c tree s (length tree.rows) strong
     → AreSources c tree s (length tree.rows) flags.items)
-    → IfOk result (λ flags. AreSources choice tree sums (length tree.rows) flags.items)
-flags_exact (Ok v) choice tree sums entries strong a b h = h choice sums a b
-flags_exact (Err d) choice tree sums entries strong a b h = tt
+    → IfOk result (λ flags. AreSources choice tree outlines (length tree.rows) flags.items)
+flags_exact (Ok v) choice tree outlines entries strong a b h = h choice outlines a b
+flags_exact (Err d) choice tree outlines entries strong a b h = tt

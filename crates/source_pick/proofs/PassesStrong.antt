@@ -14,8 +14,9 @@ use Rattle.comp_tree.specs.ComponentTree.{ComponentTree, no_node}
 use Rattle.comp_tree.specs.Components.{nodes}
 use Rattle.comp_tree.specs.Laws.{parent_of_node}
 use Rattle.comp_tree.proofs.Exported.{below_no_node}
-use Rattle.node_sums.specs.declared.entry.Sums.{Sums}
-use Rattle.node_sums.specs.Sums.{sums_of, ForEachPlaneOf}
+use Rattle.node_sums.specs.declared.outline.Outline.{Outline}
+use Rattle.node_sums.specs.Sums.{sums_of}
+use Rattle.node_sums.specs.Outlines.{outline_of, ForEachPlaneOutlined}
 use Rattle.node_sums.specs.Flux.{flux_of}
 use Rattle.source_pick.specs.declared.choice.Choice.{Choice}
 use Rattle.source_pick.specs.Sources.{is_large, is_lowest, is_entry, entry_of, has_contrast, is_strong}
@@ -23,24 +24,25 @@ use Rattle.comp_tree.specs.Nesting.{level_of_node}
 use Rattle.source_pick.specs.Passes.{entry_number, AreEntries, AreStrong}
 use Rattle.source_pick.proofs.NodesEntries.{entry_of-parts, entry_of-self, entry_of-root, entry_of-child}
 use Rattle.source_pick.proofs.NodesSplits.{strong-in, strong-none}
-use Rattle.source_pick.proofs.PassesReadings.{filled, wide}
+use Rattle.node_sums.proofs.Exported.{filled}
+use Rattle.source_pick.proofs.PassesReadings.{wide}
 
 -- ---- size
 
-pub small_area : (r : Raster) (connect : Connect) (choice : Choice) (n : ℕ) (s : Sums) → s ≡ sums_of r connect n → s.area < choice.min_area
+pub small_area : (r : Raster) (connect : Connect) (choice : Choice) (n : ℕ) (s : Outline) → s ≡ outline_of (sums_of r connect n) → s.area < choice.min_area
     → false ≡ is_large r connect choice n
 unfolding is_large
 small_area r connect choice n s e h =
     let k : nat_le choice.min_area (sums_of r connect n).area ≡ false =
-    ap (λ (x : Sums). nat_le choice.min_area x.area) (sym e) ∙ lt-leb choice.min_area s.area h in
+    ap (λ (x : Outline). nat_le choice.min_area x.area) (sym e) ∙ lt-leb choice.min_area s.area h in
     sym (and_left (nat_le choice.min_area (sums_of r connect n).area) (int_le choice.min_flux (flux_of r connect n)) k)
 
-pub large_area : (r : Raster) (connect : Connect) (choice : Choice) (n : ℕ) (s : Sums) (b : Bool) → s ≡ sums_of r connect n → choice.min_area ≤ s.area
+pub large_area : (r : Raster) (connect : Connect) (choice : Choice) (n : ℕ) (s : Outline) (b : Bool) → s ≡ outline_of (sums_of r connect n) → choice.min_area ≤ s.area
     → b ≡ int_le choice.min_flux (flux_of r connect n) → b ≡ is_large r connect choice n
 unfolding is_large
 large_area r connect choice n s b e h f =
     let k : nat_le choice.min_area (sums_of r connect n).area ≡ true =
-    ap (λ (x : Sums). nat_le choice.min_area x.area) (sym e) ∙ le-leb choice.min_area s.area h in
+    ap (λ (x : Outline). nat_le choice.min_area x.area) (sym e) ∙ le-leb choice.min_area s.area h in
     rw k f
 
 -- ---- entries
@@ -127,24 +129,24 @@ none_from_number r connect choice n x plane hn e f = go (entry_of r connect choi
         absurd (below_no_node r connect d plane (entry_of-parts r connect choice n d plane hn u).node
         (sym (e ∙ ap (λ (o : Option ℕ). unwrap_or o no_node) u) ∙ f))
 
-pub entries_none : (choice : Choice) (tree : ComponentTree) (sums : List Sums) (entries : List ℕ) → length entries ≡ length tree.rows
-    → AreEntries choice tree sums 0 entries
-entries_none choice tree sums entries l = record { one_each = l; each = λ r connect of_tree of_sums is_plane n h. absurd (omega arith) }
+pub entries_none : (choice : Choice) (tree : ComponentTree) (outlines : List Outline) (entries : List ℕ) → length entries ≡ length tree.rows
+    → AreEntries choice tree outlines 0 entries
+entries_none choice tree outlines entries l = record { one_each = l; each = λ r connect of_tree of_outlines is_plane n h. absurd (omega arith) }
 
-pub entries_more : (choice : Choice) (tree : ComponentTree) (sums : List Sums) (k x : ℕ) (entries : List ℕ) → AreEntries choice tree sums k entries
+pub entries_more : (choice : Choice) (tree : ComponentTree) (outlines : List Outline) (k x : ℕ) (entries : List ℕ) → AreEntries choice tree outlines k entries
     → k < length tree.rows
-    → ForEachPlaneOf tree sums (λ r connect. IsPlane r → x ≡ entry_number r connect choice k) → AreEntries choice tree sums (k + 1) (set entries k x)
-entries_more choice tree sums k x entries h inside here = record {
+    → ForEachPlaneOutlined tree outlines (λ r connect. IsPlane r → x ≡ entry_number r connect choice k) → AreEntries choice tree outlines (k + 1) (set entries k x)
+entries_more choice tree outlines k x entries h inside here = record {
   one_each = length-set entries k x ∙ h.one_each;
-  each = λ r connect of_tree of_sums is_plane. filled entries k x 0 (entry_number r connect choice)
-      (let l : length entries ≡ length tree.rows = h.one_each in omega arith) (h.each r connect of_tree of_sums is_plane)
-      (here r connect of_tree of_sums is_plane);
+  each = λ r connect of_tree of_outlines is_plane. filled entries k x 0 (entry_number r connect choice)
+      (let l : length entries ≡ length tree.rows = h.one_each in omega arith) (h.each r connect of_tree of_outlines is_plane)
+      (here r connect of_tree of_outlines is_plane);
 }
 
-pub entries_up_to : (choice : Choice) (tree : ComponentTree) (sums : List Sums) (j k : ℕ) (entries : List ℕ) → AreEntries choice tree sums k entries → j ≤ k
-    → AreEntries choice tree sums j entries
-entries_up_to choice tree sums j k entries h l =
-    record { one_each = h.one_each; each = λ r connect of_tree of_sums is_plane n m. h.each r connect of_tree of_sums is_plane n (omega arith) }
+pub entries_up_to : (choice : Choice) (tree : ComponentTree) (outlines : List Outline) (j k : ℕ) (entries : List ℕ) → AreEntries choice tree outlines k entries → j ≤ k
+    → AreEntries choice tree outlines j entries
+entries_up_to choice tree outlines j k entries h l =
+    record { one_each = h.one_each; each = λ r connect of_tree of_outlines is_plane n m. h.each r connect of_tree of_outlines is_plane n (omega arith) }
 
 -- ---- strong nodes
 
@@ -161,24 +163,24 @@ pub strong_if : (r : Raster) (connect : Connect) (choice : Choice) (n e : ℕ) (
     → b ≡ has_contrast r connect choice n e → b ≡ is_strong r connect choice n
 strong_if r connect choice n e b h k f = f ∙ ap (λ (x : Bool). x && has_contrast r connect choice n e) k ∙ sym (strong-in r connect choice n e h)
 
-pub strong_nodes_none : (choice : Choice) (tree : ComponentTree) (sums : List Sums) (strong : List Bool) → length strong ≡ length tree.rows
-    → AreStrong choice tree sums 0 strong
-strong_nodes_none choice tree sums strong l = record { one_each = l; each = λ r connect of_tree of_sums is_plane n h. absurd (omega arith) }
+pub strong_nodes_none : (choice : Choice) (tree : ComponentTree) (outlines : List Outline) (strong : List Bool) → length strong ≡ length tree.rows
+    → AreStrong choice tree outlines 0 strong
+strong_nodes_none choice tree outlines strong l = record { one_each = l; each = λ r connect of_tree of_outlines is_plane n h. absurd (omega arith) }
 
-pub strong_nodes_more : (choice : Choice) (tree : ComponentTree) (sums : List Sums) (k : ℕ) (x : Bool) (strong : List Bool)
-    → AreStrong choice tree sums k strong → k < length tree.rows
-    → ForEachPlaneOf tree sums (λ r connect. IsPlane r → x ≡ is_strong r connect choice k) → AreStrong choice tree sums (k + 1) (set strong k x)
-strong_nodes_more choice tree sums k x strong h inside here = record {
+pub strong_nodes_more : (choice : Choice) (tree : ComponentTree) (outlines : List Outline) (k : ℕ) (x : Bool) (strong : List Bool)
+    → AreStrong choice tree outlines k strong → k < length tree.rows
+    → ForEachPlaneOutlined tree outlines (λ r connect. IsPlane r → x ≡ is_strong r connect choice k) → AreStrong choice tree outlines (k + 1) (set strong k x)
+strong_nodes_more choice tree outlines k x strong h inside here = record {
   one_each = length-set strong k x ∙ h.one_each;
-  each = λ r connect of_tree of_sums is_plane. filled strong k x false (is_strong r connect choice)
-      (let l : length strong ≡ length tree.rows = h.one_each in omega arith) (h.each r connect of_tree of_sums is_plane)
-      (here r connect of_tree of_sums is_plane);
+  each = λ r connect of_tree of_outlines is_plane. filled strong k x false (is_strong r connect choice)
+      (let l : length strong ≡ length tree.rows = h.one_each in omega arith) (h.each r connect of_tree of_outlines is_plane)
+      (here r connect of_tree of_outlines is_plane);
 }
 
-pub strong_nodes_up_to : (choice : Choice) (tree : ComponentTree) (sums : List Sums) (j k : ℕ) (strong : List Bool) → AreStrong choice tree sums k strong
-    → j ≤ k → AreStrong choice tree sums j strong
-strong_nodes_up_to choice tree sums j k strong h l =
-    record { one_each = h.one_each; each = λ r connect of_tree of_sums is_plane n m. h.each r connect of_tree of_sums is_plane n (omega arith) }
+pub strong_nodes_up_to : (choice : Choice) (tree : ComponentTree) (outlines : List Outline) (j k : ℕ) (strong : List Bool) → AreStrong choice tree outlines k strong
+    → j ≤ k → AreStrong choice tree outlines j strong
+strong_nodes_up_to choice tree outlines j k strong h l =
+    record { one_each = h.one_each; each = λ r connect of_tree of_outlines is_plane n m. h.each r connect of_tree of_outlines is_plane n (omega arith) }
 
 -- ---- the contrast, as the code computes it
 

@@ -8,13 +8,16 @@ use Rattle.comp_tree.specs.ComponentTree.{ComponentTree, parent_in, no_node}
 use Rattle.comp_tree.specs.Components.{tree_of}
 use Rattle.comp_tree.specs.Laws.{IsAncestor, top_of}
 use Rattle.node_sums.specs.declared.entry.Sums.{Sums}
-use Rattle.node_sums.specs.Sums.{sums_of, ForEachPlaneOf}
+use Rattle.node_sums.specs.declared.outline.Outline.{Outline}
+use Rattle.node_sums.specs.Sums.{sums_of}
+use Rattle.node_sums.specs.Outlines.{ForEachPlaneOutlined}
+use Rattle.node_sums.specs.DisjointNodes.{node_number_at, AreDisjointNodes, AreNumbered}
+use Rattle.node_sums.specs.NodeNumbers.{IsOnWay}
 use Rattle.source_pick.specs.declared.choice.Choice.{Choice}
 use Rattle.source_pick.specs.declared.picking.PlacedSource.{PlacedSource}
 use Rattle.source_pick.specs.declared.splitting.StrongChildren.{StrongChildren}
 use Rattle.source_pick.specs.declared.splitting.StrongChildren.TheVariants.{Zero, One, Several}
 use Rattle.source_pick.specs.Sources.{entry_of, is_strong, is_source}
-use Rattle.source_pick.specs.Segmentation.{source_number_at, AreDisjointNodes}
 
 -- ---- entries and strong nodes
 
@@ -23,14 +26,14 @@ unfoldable pub entry_number : Raster → Connect → Choice → ℕ → ℕ
 entry_number r connect choice n = unwrap_or (entry_of r connect choice n) no_node
 
 -- the first count numbers are those of the nodes' entries
-pub record AreEntries (choice : Choice) (tree : ComponentTree) (sums : List Sums) (count : ℕ) (entries : List ℕ) : Type 0 where
+pub record AreEntries (choice : Choice) (tree : ComponentTree) (outlines : List Outline) (count : ℕ) (entries : List ℕ) : Type 0 where
   pub one_each : length entries ≡ length tree.rows
-  pub each : ForEachPlaneOf tree sums (λ r connect. IsPlane r → (n : ℕ) → n < count → slice_index entries n ≡ entry_number r connect choice n)
+  pub each : ForEachPlaneOutlined tree outlines (λ r connect. IsPlane r → (n : ℕ) → n < count → slice_index entries n ≡ entry_number r connect choice n)
 
 -- the first count flags say which nodes are strong
-pub record AreStrong (choice : Choice) (tree : ComponentTree) (sums : List Sums) (count : ℕ) (strong : List Bool) : Type 0 where
+pub record AreStrong (choice : Choice) (tree : ComponentTree) (outlines : List Outline) (count : ℕ) (strong : List Bool) : Type 0 where
   pub one_each : length strong ≡ length tree.rows
-  pub each : ForEachPlaneOf tree sums (λ r connect. IsPlane r → (n : ℕ) → n < count → slice_index_or strong n false ≡ is_strong r connect choice n)
+  pub each : ForEachPlaneOutlined tree outlines (λ r connect. IsPlane r → (n : ℕ) → n < count → slice_index_or strong n false ≡ is_strong r connect choice n)
 
 -- ---- splits
 
@@ -82,10 +85,6 @@ are_several Zero = false
 are_several One = false
 are_several Several = true
 
--- m is n, or is met on the way from n upwards
-abbrev pub IsOnWay : List NodeRow → ℕ → ℕ → Type 0
-IsOnWay rows m n = (n ≡ m) ⊎ IsAncestor rows m n
-
 -- m is on the way from a split
 pub record IsAboveSplit (rows : List NodeRow) (splits : List Bool) (m : ℕ) : Type 0 where
   pub split : ℕ
@@ -110,39 +109,28 @@ pub record AreAboveSplits (rows : List NodeRow) (splits flags : List Bool) : Typ
 -- ---- sources
 
 -- the first count flags say which nodes are sources
-pub record AreSources (choice : Choice) (tree : ComponentTree) (sums : List Sums) (count : ℕ) (flags : List Bool) : Type 0 where
+pub record AreSources (choice : Choice) (tree : ComponentTree) (outlines : List Outline) (count : ℕ) (flags : List Bool) : Type 0 where
   pub one_each : length flags ≡ length tree.rows
-  pub each : ForEachPlaneOf tree sums (λ r connect. IsPlane r → (n : ℕ) → n < count → slice_index_or flags n false ≡ is_source r connect choice n)
+  pub each : ForEachPlaneOutlined tree outlines (λ r connect. IsPlane r → (n : ℕ) → n < count → slice_index_or flags n false ≡ is_source r connect choice n)
 
--- source n with its least pixel
-abbrev pub with_least_pixel : Raster → Connect → ℕ → PlacedSource
-with_least_pixel r connect n = record { first = (sums_of r connect n).first; node = n }
+-- the list has the sources below count, in the order of nodes
+pub record AreListedSources (choice : Choice) (tree : ComponentTree) (outlines : List Outline) (count : ℕ) (listed : List ℕ) : Type 0 where
+  pub are : ForEachPlaneOutlined tree outlines (λ r connect. IsPlane r → listed ≡ filter (is_source r connect choice) (range_with_len 0 count))
 
--- the list has the sources below count with their least pixels, in the order of nodes
-pub record ArePlacedSources (choice : Choice) (tree : ComponentTree) (sums : List Sums) (count : ℕ) (placed : List PlacedSource) : Type 0 where
-  pub listed : ForEachPlaneOf tree sums (λ r connect. IsPlane r
-      → placed ≡ map (with_least_pixel r connect) (filter (is_source r connect choice) (range_with_len 0 count)))
+-- source n with its sums
+abbrev pub with_sums : Raster → Connect → ℕ → PlacedSource
+with_sums r connect n = record { node = n; sums = sums_of r connect n }
 
--- their nodes
+-- the nodes of some sources, and their sums
 abbrev pub placed_nodes : List PlacedSource → List ℕ
 placed_nodes placed = map (λ (source : PlacedSource). source.node) placed
 
+abbrev pub placed_sums : List PlacedSource → List Sums
+placed_sums placed = map (λ (source : PlacedSource). source.sums) placed
+
 -- ---- the map
-
--- the first count nodes of the list have their places from 1 at their numbers, and all other nodes have 0
-pub record AreMarked (size : ℕ) (marked : List ℕ) (count : ℕ) (numbers : List ℕ) : Type 0 where
-  pub one_each : length numbers ≡ size
-  pub sound : (n : ℕ) → n < size
-      → (slice_index numbers n ≡ 0) ⊎ ((i : ℕ) × (i < count) × (slice_get marked i ≡ Some n) × (slice_index numbers n ≡ i + 1))
-  pub complete : (i n : ℕ) → i < count → slice_get marked i ≡ Some n → slice_index numbers n ≡ 0 → ⊥
-
--- the first count nodes have the number of the node of the list that is on their way upwards
-pub record AreNumbered (tree : ComponentTree) (marked : List ℕ) (count : ℕ) (numbers : List ℕ) : Type 0 where
-  pub one_each : length numbers ≡ length tree.rows
-  pub each : (r : Raster) (connect : Connect) → IsPlane r → tree ≡ tree_of r connect → (n : ℕ) → n < count
-      → slice_index numbers n ≡ source_number_at r connect marked (top_of r connect n)
 
 -- the map of the pixels from start on has the numbers of the first count of them, if `numbers` has those of the nodes
 pub record HavePixelNumbers (tree : ComponentTree) (numbers : List ℕ) (start count : ℕ) (map : List ℕ) : Type 0 where
   pub each : (marked : List ℕ) (r : Raster) (connect : Connect) → AreDisjointNodes tree marked → AreNumbered tree marked (length tree.rows) numbers
-      → tree ≡ tree_of r connect → (k : ℕ) → k < count → slice_index map k ≡ source_number_at r connect marked (start + k)
+      → tree ≡ tree_of r connect → (k : ℕ) → k < count → slice_index map k ≡ node_number_at r connect marked (start + k)

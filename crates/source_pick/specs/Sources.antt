@@ -1,5 +1,5 @@
 -- Model: which nodes of a plane's component tree are sources, and in which order they are numbered.
-use Rattle.std.specs.Prelude.{ℕ, Bool, false, ◌&&◌, ◌||◌, ◌==◌, not, nat_le, pos, ◌*ℤ◌, int_le, int_lt, List, filter, Option}
+use Rattle.std.specs.Prelude.{◌≡◌, ℕ, Bool, false, ◌&&◌, ◌||◌, ◌==◌, not, nat_le, pos, ◌*ℤ◌, int_le, int_lt, List, map, filter, Option}
 use Rattle.std.specs.List.{list_any, find, flat_map}
 use Rattle.std.specs.Option.{option_map_or}
 use Rattle.comp_tree.specs.declared.shape.Connect.{Connect}
@@ -7,6 +7,7 @@ use Rattle.comp_tree.specs.Raster.{Raster, pixels}
 use Rattle.comp_tree.specs.Components.{tree_of}
 use Rattle.comp_tree.specs.Nesting.{node_numbers, is_root, level_of_node, lies_within}
 use Rattle.comp_tree.specs.Laws.{parent_of_node}
+use Rattle.node_sums.specs.declared.entry.Sums.{Sums}
 use Rattle.node_sums.specs.Sums.{sums_of}
 use Rattle.node_sums.specs.Flux.{flux_of}
 use Rattle.source_pick.specs.declared.choice.Choice.{Choice}
@@ -81,3 +82,8 @@ sources_at r connect choice p = filter (λ n. is_source r connect choice n && ((
 -- the sources in the order of their least pixels: the number of a source is its place here, from 1
 unfoldable pub sources : Raster → Connect → Choice → List ℕ
 sources r connect choice = flat_map (sources_at r connect choice) (pixels r)
+
+-- these nodes and sums are the sources, and the sums of each
+pub record ArePickedFrom (r : Raster) (connect : Connect) (choice : Choice) (picked : List ℕ) (sums : List Sums) : Type 0 where
+  pub nodes_are : picked ≡ sources r connect choice
+  pub sums_are : sums ≡ map (sums_of r connect) picked

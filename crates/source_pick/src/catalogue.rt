@@ -1,7 +1,10 @@
 //! The catalogue row of a source.
 
 ghost use Rattle.std.specs.Prelude.{◌≡◌, ◌^◌, ◌<◌, ◌≤◌, pos, ◌-ℤ◌, ◌*ℤ◌, length};
-ghost use Rattle.node_sums.specs.Sums.{AreTheTrees, ForEachPlaneOf};
+ghost use Rattle.comp_tree.specs.declared.shape.Connect.{Connect};
+ghost use Rattle.comp_tree.specs.Raster.{Raster};
+ghost use Rattle.comp_tree.specs.Components.{tree_of};
+ghost use Rattle.node_sums.specs.Sums.{sums_of, AreSumsOfNode};
 ghost use Rattle.source_pick.specs.Catalogue.{catalogue_row, measured_row, cells_of, centre_of, spread_of, FitsColumns, IsCentred};
 ghost use Rattle.source_pick.specs.Numbers.{IsMoment, IsMean, IsSpread, IsMeasured};
 
@@ -36,14 +39,14 @@ pub struct CatRow {
     pub xycov: i64,
 }
 
-/// The catalogue row of node `n`, as source with this number.
-pub fn row(tree: &Tree, sums: &[Sums], number: u32, n: u32) -> CatRow
-    requires sums { AreTheTrees tree.now sums.now }
+/// The catalogue row of node `n`, by its sums, as source with this number.
+pub fn row(tree: &Tree, sums: &Sums, number: u32, n: u32) -> CatRow
+    requires sums { AreSumsOfNode tree.now n sums.now }
     requires node { n < length tree.now.rows }
     requires from_one { 1 ≤ number }
     requires few { number ≤ 2147483647 }
-    ensures exact { ForEachPlaneOf tree.now sums.now
-        (λ plane connect. result ≡ catalogue_row plane connect number n) }
+    ensures exact { (plane : Raster) (connect : Connect) → tree.now ≡ tree_of plane connect
+        → sums.now ≡ sums_of plane connect n → result ≡ catalogue_row plane connect number n }
     ensures columns { FitsColumns result }
     ensures centred { IsCentred result }
 {
@@ -51,7 +54,7 @@ pub fn row(tree: &Tree, sums: &[Sums], number: u32, n: u32) -> CatRow
     let level = tree.rows()[n as usize].level;
     let base = base(tree, n);
     let flux = flux(tree, sums, n);
-    row_from(number, level, base, flux, width, &sums[n as usize])
+    row_from(number, level, base, flux, width, sums)
 }
 
 // The row from a node's numbers.

@@ -1,4 +1,4 @@
-//! Sources, their segmentation map and their catalogue, from the component tree of a plane and the sums over its nodes.
+//! Sources, their segmentation map and their catalogue, from the component tree of a plane.
 #![tactic(auto)]
 
 mod catalogue;
@@ -15,5 +15,5 @@ mod tests;
 pub use catalogue::{CatRow, cells, row};
 pub use choice::Choice;
 pub use clearing::{clear_far, near};
-pub use picking::pick;
+pub use picking::{Picked, pick, pick_by_outlines};
 pub use segmenting::{segment, segment_in_parts};

@@ -1,71 +1,111 @@
 //! The sources of a plane, in the order of their least pixels.
 
 ghost use Rattle.std.specs.Prelude.{◌≡◌, ◌<◌, ◌≤◌, List, IfOk, length, map};
-ghost use Rattle.comp_tree.specs.Raster.{IsPlane};
-ghost use Rattle.node_sums.specs.declared.entry.Sums.{Sums as Entry};
-ghost use Rattle.node_sums.specs.Sums.{AreTheTrees, ForEachPlaneOf};
+ghost use Rattle.comp_tree.specs.declared.shape.Connect.{Connect};
+ghost use Rattle.comp_tree.specs.Raster.{Raster, IsPlane};
+ghost use Rattle.comp_tree.specs.Components.{tree_of};
+ghost use Rattle.node_sums.specs.declared.outline.Outline.{Outline as Outlined};
+ghost use Rattle.node_sums.specs.Sums.{sums_of, IsTreeOfPlane, AreSumsOfNodes};
+ghost use Rattle.node_sums.specs.Outlines.{outlines_in, AreOutlinesOfTree, ForEachPlaneOutlined};
+ghost use Rattle.node_sums.specs.DisjointNodes.{AreDisjointNodes};
 ghost use Rattle.source_pick.specs.declared.choice.Choice.{Choice as Chosen};
-ghost use Rattle.source_pick.specs.Sources.{is_source, sources};
-ghost use Rattle.source_pick.specs.Segmentation.{AreDisjointNodes};
+ghost use Rattle.source_pick.specs.Sources.{is_source, ArePickedFrom};
 ghost use Rattle.source_pick.specs.Passes.{
   AreEntries,
   AreStrong,
   AreStrongChildCounts,
   AreAboveSplits,
   AreSources,
-  ArePlacedSources,
+  AreListedSources,
   are_several,
+  with_sums,
   placed_nodes,
+  placed_sums,
 };
 
 use crate::choice::Choice;
 use crate::marking::{entries_of_nodes, strong_nodes};
 use crate::splitting::{StrongChildren, above_splits, strong_children};
-use comp_tree::{NONE, Tree};
+use comp_tree::{NONE, Plane, Tree};
 use costs::OutOfMemory;
-use node_sums::Sums;
+use node_sums::{Outline, Sums, outlines, sums_of_nodes};
 use std::alloc::{AllocError, Global};
 
-// A source: its least pixel, and its node.
-#[derive(Clone, Copy)]
-struct PlacedSource {
-    first: u32,
-    node: u32,
+/// The sources of a plane: their nodes in the order of their numbers, and the sums of each.
+#[derive(Drop)]
+pub struct Picked {
+    pub nodes: Vec<u32>,
+    pub sums: Vec<Sums>,
 }
 
-/// The nodes of the sources, in the order of their numbers: passes over the nodes, and a sort of the sources. The one error
-/// is that memory was refused.
+// A source: its node, and its sums.
+#[derive(Clone, Copy)]
+struct PlacedSource {
+    node: u32,
+    sums: Sums,
+}
+
+/// The sources of a plane, by its tree: passes over the pixels and the nodes, and a sort of the sources. The one error is
+/// that memory was refused.
 pub fn pick(
     alloc: Global,
+    plane: &Plane,
     tree: &Tree,
-    sums: &[Sums],
     choice: &Choice,
-) -> Result<Vec<u32>, OutOfMemory>
-    requires sums { AreTheTrees tree.now sums.now }
+) -> Result<Picked, OutOfMemory>
+    requires tree { IsTreeOfPlane plane.now tree.now }
     requires contrast { choice.now.contrast ≤ 1000 }
-    ensures exact { IfOk result (λ picked. ForEachPlaneOf tree.now sums.now
-        (λ plane connect. picked.items ≡ sources plane connect choice.now)) }
-    ensures disjoint { IfOk result (λ picked. AreDisjointNodes tree.now picked.items) }
+    ensures exact { IfOk result (λ picked. (connect : Connect) → tree.now ≡ tree_of plane.now connect
+        → ArePickedFrom plane.now connect choice.now picked.nodes.items picked.sums.items) }
+    ensures disjoint { IfOk result (λ picked. AreDisjointNodes tree.now picked.nodes.items) }
+    ensures sums { IfOk result
+        (λ picked. AreSumsOfNodes tree.now picked.nodes.items picked.sums.items) }
 {
-    let flags = flags_of_sources(alloc, tree, sums, choice)?;
-    let mut placed = placed_sources(alloc, tree, sums, &flags)?;
-    placed.sort_unstable_by_key(|source| source.first);
-    Ok(nodes_of(alloc, &placed)?)
+    let outlines = outlines(alloc, plane, tree)?;
+    pick_by_outlines(alloc, plane, tree, &outlines, choice)
+}
+
+/// The same, for which the outlines of all nodes were made before.
+pub fn pick_by_outlines(
+    alloc: Global,
+    plane: &Plane,
+    tree: &Tree,
+    outlines: &[Outline],
+    choice: &Choice,
+) -> Result<Picked, OutOfMemory>
+    requires tree { IsTreeOfPlane plane.now tree.now }
+    requires outlines { AreOutlinesOfTree tree.now outlines.now }
+    requires of_plane { (connect : Connect) → tree.now ≡ tree_of plane.now connect
+        → outlines.now ≡ outlines_in plane.now connect }
+    requires contrast { choice.now.contrast ≤ 1000 }
+    ensures exact { IfOk result (λ picked. (connect : Connect) → tree.now ≡ tree_of plane.now connect
+        → ArePickedFrom plane.now connect choice.now picked.nodes.items picked.sums.items) }
+    ensures disjoint { IfOk result (λ picked. AreDisjointNodes tree.now picked.nodes.items) }
+    ensures sums { IfOk result
+        (λ picked. AreSumsOfNodes tree.now picked.nodes.items picked.sums.items) }
+{
+    let _shape = plane.shape();
+    let flags = flags_of_sources(alloc, tree, outlines, choice)?;
+    let nodes = flagged_nodes(alloc, tree, &flags)?;
+    let sums = sums_of_nodes(alloc, plane, tree, &nodes)?;
+    let mut placed = placed_sources(alloc, &nodes, &sums)?;
+    placed.sort_unstable_by_key(|source| source.sums.first);
+    picked_of(alloc, &placed)
 }
 
 // For each node whether it is a source.
 fn flags_of_sources(
     alloc: Global,
     tree: &Tree,
-    sums: &[Sums],
+    outlines: &[Outline],
     choice: &Choice,
 ) -> Result<Vec<bool>, OutOfMemory>
-    requires { AreTheTrees tree.now sums.now }
+    requires { AreOutlinesOfTree tree.now outlines.now }
     ensures { IfOk result (λ flags.
-        AreSources choice.now tree.now sums.now (length tree.now.rows) flags.items) }
+        AreSources choice.now tree.now outlines.now (length tree.now.rows) flags.items) }
 {
-    let entries = entries_of_nodes(alloc, tree, sums, choice)?;
-    let strong = strong_nodes(alloc, tree, sums, choice, &entries)?;
+    let entries = entries_of_nodes(alloc, tree, outlines, choice)?;
+    let strong = strong_nodes(alloc, tree, outlines, choice, &entries)?;
     let children = strong_children(alloc, tree, &entries, &strong)?;
     let above = above_splits(alloc, tree, &children)?;
     source_flags(alloc, tree, &entries, &strong, &children, &above)
@@ -84,10 +124,10 @@ fn source_flags(
     requires strong { length strong.now ≡ length tree.now.rows }
     requires children { AreStrongChildCounts tree.now.rows entries.now strong.now (length tree.now.rows) children.now }
     requires above { AreAboveSplits tree.now.rows (map are_several children.now) above.now }
-    ensures { IfOk result (λ flags. (choice : Chosen) (sums : List Entry)
-        → AreEntries choice tree.now sums (length tree.now.rows) entries.now
-        → AreStrong choice tree.now sums (length tree.now.rows) strong.now
-        → AreSources choice tree.now sums (length tree.now.rows) flags.items) }
+    ensures { IfOk result (λ flags. (choice : Chosen) (outlines : List Outlined)
+        → AreEntries choice tree.now outlines (length tree.now.rows) entries.now
+        → AreStrong choice tree.now outlines (length tree.now.rows) strong.now
+        → AreSources choice tree.now outlines (length tree.now.rows) flags.items) }
 {
     let mut flags = vec![in alloc; false; tree.node_count() as usize]?;
     flag_sources(tree, entries, strong, children, above, &mut flags);
@@ -107,10 +147,10 @@ fn flag_sources(
     requires children { AreStrongChildCounts tree.now.rows entries.now strong.now (length tree.now.rows) children.now }
     requires above { AreAboveSplits tree.now.rows (map are_several children.now) above.now }
     requires flags { length flags.old ≡ length tree.now.rows }
-    ensures { (choice : Chosen) (sums : List Entry)
-        → AreEntries choice tree.now sums (length tree.now.rows) entries.now
-        → AreStrong choice tree.now sums (length tree.now.rows) strong.now
-        → AreSources choice tree.now sums (length tree.now.rows) flags.new }
+    ensures { (choice : Chosen) (outlines : List Outlined)
+        → AreEntries choice tree.now outlines (length tree.now.rows) entries.now
+        → AreStrong choice tree.now outlines (length tree.now.rows) strong.now
+        → AreSources choice tree.now outlines (length tree.now.rows) flags.new }
 {
     for n in 0..tree.node_count() {
         let is_flagged = passes_as_source(tree, entries, strong, children, above, n);
@@ -131,10 +171,10 @@ fn passes_as_source(
     requires strong { length strong.now ≡ length tree.now.rows }
     requires children { AreStrongChildCounts tree.now.rows entries.now strong.now (length tree.now.rows) children.now }
     requires above { AreAboveSplits tree.now.rows (map are_several children.now) above.now }
-    ensures { (choice : Chosen) (sums : List Entry)
-        → AreEntries choice tree.now sums (length tree.now.rows) entries.now
-        → AreStrong choice tree.now sums (length tree.now.rows) strong.now
-        → ForEachPlaneOf tree.now sums (λ r connect. IsPlane r
+    ensures { (choice : Chosen) (outlines : List Outlined)
+        → AreEntries choice tree.now outlines (length tree.now.rows) entries.now
+        → AreStrong choice tree.now outlines (length tree.now.rows) strong.now
+        → ForEachPlaneOutlined tree.now outlines (λ r connect. IsPlane r
         → result ≡ is_source r connect choice n) }
 {
     if above[n as usize] {
@@ -153,32 +193,61 @@ fn passes_as_source(
     children[parent as usize].are_several()
 }
 
-// The sources with their least pixels, in the order of nodes.
-fn placed_sources(
-    alloc: Global,
-    tree: &Tree,
-    sums: &[Sums],
-    flags: &[bool],
-) -> Result<Vec<PlacedSource>, OutOfMemory>
-    requires sums { AreTheTrees tree.now sums.now }
-    requires flags { length flags.now ≡ length tree.now.rows }
-    ensures { IfOk result (λ placed. (choice : Chosen)
-        → AreSources choice tree.now sums.now (length tree.now.rows) flags.now
-        → ArePlacedSources choice tree.now sums.now (length tree.now.rows) placed.items) }
+// The sources, in the order of nodes.
+fn flagged_nodes(alloc: Global, tree: &Tree, flags: &[bool]) -> Result<Vec<u32>, OutOfMemory>
+    requires { length flags.now ≡ length tree.now.rows }
+    ensures { IfOk result (λ nodes. (choice : Chosen) (outlines : List Outlined)
+        → AreSources choice tree.now outlines (length tree.now.rows) flags.now
+        → AreListedSources choice tree.now outlines (length tree.now.rows) nodes.items) }
 {
-    let mut placed = Vec::new(alloc);
+    let mut nodes = Vec::new(alloc);
     for n in 0..tree.node_count() {
         if flags[n as usize] {
-            let first = sums[n as usize].first;
-            placed.push(PlacedSource { first, node: n })?;
+            nodes.push(n)?;
         }
+    }
+    Ok(nodes)
+}
+
+// The same with their sums.
+fn placed_sources(
+    alloc: Global,
+    nodes: &[u32],
+    sums: &[Sums],
+) -> Result<Vec<PlacedSource>, OutOfMemory>
+    requires { length sums.now ≡ length nodes.now }
+    ensures { IfOk result (λ placed. (r : Raster) (connect : Connect)
+        → sums.now ≡ map (sums_of r connect) nodes.now
+        → placed.items ≡ map (with_sums r connect) nodes.now) }
+{
+    let mut placed = Vec::new(alloc);
+    for i in 0..nodes.len() {
+        placed.push(PlacedSource {
+            node: nodes[i],
+            sums: sums[i],
+        })?;
     }
     Ok(placed)
 }
 
-// Their nodes alone.
+// Their nodes alone, and their sums alone.
+fn picked_of(alloc: Global, placed: &[PlacedSource]) -> Result<Picked, OutOfMemory>
+    ensures nodes { IfOk result (λ picked. picked.nodes.items ≡ placed_nodes placed.now) }
+    ensures sums { IfOk result (λ picked. picked.sums.items ≡ placed_sums placed.now) }
+{
+    let nodes = nodes_of(alloc, placed)?;
+    let sums = sums_in_order(alloc, placed)?;
+    Ok(Picked { nodes, sums })
+}
+
 fn nodes_of(alloc: Global, placed: &[PlacedSource]) -> Result<Vec<u32>, AllocError>
     ensures { IfOk result (λ nodes. nodes.items ≡ placed_nodes placed.now) }
 {
     placed.iter().map(|source| source.node).collect(alloc)
+}
+
+fn sums_in_order(alloc: Global, placed: &[PlacedSource]) -> Result<Vec<Sums>, AllocError>
+    ensures { IfOk result (λ sums. sums.items ≡ placed_sums placed.now) }
+{
+    placed.iter().map(|source| source.sums).collect(alloc)
 }

@@ -1,14 +1,16 @@
 //! The segmentation map: the number of the source that holds each pixel.
 
-ghost use Rattle.std.specs.Prelude.{◌≡◌, ◌+◌, ◌≤◌, ◌<◌, ◌^◌, ℕ, List, IfOk, length, replicate, Some, slice_get, slice_index};
+ghost use Rattle.std.specs.Prelude.{◌≡◌, ◌+◌, ◌≤◌, ◌<◌, ◌^◌, ℕ, List, IfOk, length, replicate, slice_index};
 ghost use Rattle.comp_tree.specs.declared.shape.Connect.{Connect};
 ghost use Rattle.comp_tree.specs.Raster.{Raster};
 ghost use Rattle.comp_tree.specs.Components.{tree_of};
-ghost use Rattle.source_pick.specs.Segmentation.{segmentation_of, AreDisjointNodes};
-ghost use Rattle.source_pick.specs.Passes.{AreMarked, AreNumbered, HavePixelNumbers};
+ghost use Rattle.node_sums.specs.DisjointNodes.{AreDisjointNodes, AreNumbered};
+ghost use Rattle.source_pick.specs.Segmentation.{segmentation_of};
+ghost use Rattle.source_pick.specs.Passes.{HavePixelNumbers};
 
 use comp_tree::{NONE, Tree};
 use costs::OutOfMemory;
+use node_sums::numbers_of_nodes;
 use std::alloc::Global;
 use std::thread;
 use std::thread::Threads;
@@ -56,45 +58,6 @@ fn zeros(alloc: Global, count: usize) -> Result<Vec<u32>, OutOfMemory>
 {
     let numbers = vec![in alloc; 0u32; count]?;
     Ok(numbers)
-}
-
-// For each node the number of the source in which it lies, else 0.
-fn numbers_of_nodes(alloc: Global, tree: &Tree, sources: &[u32]) -> Result<Vec<u32>, OutOfMemory>
-    requires { AreDisjointNodes tree.now sources.now }
-    ensures { IfOk result (λ numbers.
-        AreNumbered tree.now sources.now (length tree.now.rows) numbers.items) }
-{
-    let mut numbers = zeros(alloc, tree.rows().len())?;
-    mark_sources(sources, &mut numbers);
-    pass_down(tree, &mut numbers);
-    Ok(numbers)
-}
-
-fn mark_sources(sources: &[u32], numbers: &mut [u32])
-    requires inside { (i n : ℕ) → slice_get sources.now i ≡ Some n → n < length numbers.old }
-    requires few { length sources.now ≤ 2147483647 }
-    requires none { (n : ℕ) → slice_index numbers.old n ≡ 0 }
-    ensures { AreMarked (length numbers.old) sources.now (length sources.now) numbers.new }
-{
-    for (i, n) in sources.iter().enumerate() {
-        numbers[*n as usize] = i as u32 + 1;
-    }
-}
-
-// One pass from the roots: a node that is no source has the number of its parent.
-fn pass_down(tree: &Tree, numbers: &mut [u32])
-    requires { length numbers.old ≡ length tree.now.rows }
-    ensures { (marked : List ℕ) → AreDisjointNodes tree.now marked
-        → AreMarked (length tree.now.rows) marked (length marked) numbers.old
-        → AreNumbered tree.now marked (length tree.now.rows) numbers.new }
-{
-    for n in 0..tree.node_count() {
-        let parent = tree.parent(n);
-        if numbers[n as usize] == 0 && parent != NONE {
-            let number = numbers[parent as usize];
-            numbers[n as usize] = number;
-        }
-    }
 }
 
 // Fills the map.

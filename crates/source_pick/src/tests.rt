@@ -1,13 +1,13 @@
 //! Small planes with their sources, maps and rows, and what is left of a sky.
 
 ghost use Rattle.std.specs.Prelude.{◌<◌, ◌≤◌, ◌^◌, length};
-ghost use Rattle.node_sums.specs.Sums.{AreTheTrees};
-ghost use Rattle.source_pick.specs.Segmentation.{AreDisjointNodes};
+ghost use Rattle.node_sums.specs.Sums.{AreSumsOfNode, AreSumsOfNodes};
+ghost use Rattle.node_sums.specs.DisjointNodes.{AreDisjointNodes};
 
 use super::*;
 use comp_tree::{Connect, Plane, Shape, Tree, plain_tree};
 use fits_write::CELLS_IN_ROW;
-use node_sums::{Sums, sums};
+use node_sums::Sums;
 use std::alloc::Global;
 use std::process::Abort;
 use std::test::Fail;
@@ -38,8 +38,8 @@ fn plane_of(alloc: Global, width: u32, height: u32, values: &[i64]) -> Result<Pl
 }
 
 // The numbers of a source's row.
-fn numbers_of(tree: &Tree, sums: &[Sums], number: u32, n: u32) -> [i64; CELLS_IN_ROW]
-    requires sums { AreTheTrees tree.now sums.now }
+fn numbers_of(tree: &Tree, sums: &Sums, number: u32, n: u32) -> [i64; CELLS_IN_ROW]
+    requires sums { AreSumsOfNode tree.now n sums.now }
     requires node { n < length tree.now.rows }
     requires from_one { 1 ≤ number }
     requires few { number ≤ 2147483647 }
@@ -56,20 +56,6 @@ fn try_case<R: Threads + Sync + Abort>(
 ) -> Result<(), Fail> {
     let plane = plane_of(alloc, case.width, case.height, case.values)?;
     let tree = plain_tree(alloc, &plane, Connect::Four)?;
-    let found = sums(alloc, &plane, &tree)?;
-    try_sources(rt, alloc, parts, case, &tree, &found)
-}
-
-fn try_sources<R: Threads + Sync + Abort>(
-    rt: &R,
-    alloc: Global,
-    parts: u32,
-    case: &Case,
-    tree: &Tree,
-    sums: &[Sums],
-) -> Result<(), Fail>
-    requires { AreTheTrees tree.now sums.now }
-{
     assert!(rt; case.contrast <= 1000);
     let choice = Choice {
         threshold: case.threshold,
@@ -77,10 +63,10 @@ fn try_sources<R: Threads + Sync + Abort>(
         min_flux: 0,
         contrast: case.contrast,
     };
-    let picked = pick(alloc, tree, sums, &choice)?;
-    assert_eq!(rt; picked.as_slice(), case.nodes);
-    try_rows(rt, tree, sums, &picked, case.rows);
-    try_maps(rt, alloc, parts, tree, &picked, case.map)
+    let picked = pick(alloc, &plane, &tree, &choice)?;
+    assert_eq!(rt; picked.nodes.as_slice(), case.nodes);
+    try_rows(rt, &tree, &picked.sums, &picked.nodes, case.rows);
+    try_maps(rt, alloc, parts, &tree, &picked.nodes, case.map)
 }
 
 // Looks at the map, made in one piece and in parts.
@@ -109,7 +95,7 @@ fn try_rows<R: Abort>(
     picked: &[u32],
     rows: &[[i64; CELLS_IN_ROW]],
 )
-    requires { AreTheTrees tree.now sums.now }
+    requires { AreSumsOfNodes tree.now picked.now sums.now }
 {
     let count = picked.len();
     assert_eq!(rt; count, rows.len());
@@ -117,7 +103,7 @@ fn try_rows<R: Abort>(
     for i in 0..count {
         let n = picked[i];
         assert!(rt; (n as usize) < tree.rows().len());
-        let row = numbers_of(tree, sums, i as u32 + 1, n);
+        let row = numbers_of(tree, &sums[i], i as u32 + 1, n);
         assert_eq!(rt; row, rows[i], "row {i}");
     }
 }

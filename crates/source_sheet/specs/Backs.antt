@@ -61,6 +61,10 @@ pub record AreOwners (width : ℕ) (places : List Place) (count : ℕ) (owners :
 abbrev pub first_in : List Sums → ℕ → ℕ
 first_in sums n = slice_index (map (λ (s : Sums). s.first) sums) n
 
+-- the sums of the picked nodes have these least pixels
+pub record AreFirstsOf (sums : List Sums) (picked : List ℕ) (own : List Sums) : Type 0 where
+  pub each : (i n : ℕ) (entry : Sums) → slice_get picked i ≡ Some n → slice_get own i ≡ Some entry → entry.first ≡ first_in sums n
+
 -- some place has it
 abbrev pub has_owner : List ℕ → List Sums → ℕ → Bool
 has_owner owners sums n = not (slice_index owners (first_in sums n) == 0)

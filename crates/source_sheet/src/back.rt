@@ -1,28 +1,30 @@
 //! The sources of a sheet, taken back to the plane: their order there, and their rows.
 
-ghost use Rattle.std.specs.Prelude.{◌≡◌, ◌≤◌, ◌<◌, ◌+◌, ◌*◌, ◌++◌, ℕ, ℤ, IfOk, OnOk, All, length, slice_index, slice_get, Some};
+ghost use Rattle.std.specs.Prelude.{◌≡◌, ◌≤◌, ◌<◌, ◌+◌, ◌*◌, ◌++◌, ℕ, ℤ, IfOk, OnOk, All, List, map, length, slice_index, slice_get, Some};
 ghost use Rattle.std.specs.List.{flat_map};
 ghost use Rattle.comp_tree.specs.declared.shape.Connect.{Connect};
 ghost use Rattle.comp_tree.specs.Components.{tree_of};
-ghost use Rattle.node_sums.specs.Sums.{sums_in, AreTheTrees, ForEachPlaneOf};
+ghost use Rattle.node_sums.specs.Sums.{sums_of, AreSumsOfNode, AreSumsOfNodes};
 ghost use Rattle.fits_write.specs.Columns.{IsTable};
 ghost use Rattle.fits_write.specs.CatalogueColumns.{catalogue_columns};
 ghost use Rattle.source_pick.specs.Catalogue.{FitsColumns, catalogue_row, catalogue, cells_of};
-ghost use Rattle.source_pick.specs.Segmentation.{AreDisjointNodes, segmentation};
+ghost use Rattle.source_pick.specs.Segmentation.{segmentation};
+ghost use Rattle.node_sums.specs.declared.entry.Sums.{Sums as Entry};
+ghost use Rattle.node_sums.specs.DisjointNodes.{AreDisjointNodes};
 ghost use Rattle.comp_tree.specs.Raster.{Raster};
 ghost use Rattle.comp_tree.specs.Windows.{IsInside, in_whole};
 ghost use Rattle.source_pick.specs.Sheets.{taken_back, row_back, sheet_rows, AreTakenBack};
 ghost use Rattle.source_sheet.specs.declared.back.Taken.{Taken as Source};
 ghost use Rattle.source_sheet.specs.Laid.{windows_of, part_of, IsLaidOut, IsTreeOfSheet};
 ghost use Rattle.source_sheet.specs.Checks.{LiesInBoth, LieInBoth, IsInWindow};
-ghost use Rattle.source_sheet.specs.Backs.{SheetLaws, AreMarkedIn, AreOwners, first_in, IsTakenIfOwned, AreTaken, found_of, nodes_in, IsNear, IsNodeAt, AreListed, parts_of};
+ghost use Rattle.source_sheet.specs.Backs.{SheetLaws, AreMarkedIn, AreOwners, first_in, AreFirstsOf, IsTakenIfOwned, AreTaken, found_of, nodes_in, IsNear, IsNodeAt, AreListed, parts_of};
 
 use crate::map::map_of_sheet;
 use crate::sheet::{Place, Sheet};
 use comp_tree::{Shape, Tree};
 use costs::OutOfMemory;
 use fits_write::CELLS_IN_ROW;
-use node_sums::{Sums, sums};
+use node_sums::{Sums, sums_of_nodes};
 use source_pick::laws::{sources_are_disjoint, sources_of_sheets};
 use source_pick::{CatRow, Choice, cells, pick, row};
 use std::alloc::{AllocError, Global};
@@ -106,22 +108,21 @@ fn laws_of_sheets()
     sources_are_disjoint();
 }
 
-// Node `n` of the sheet, where a place has its least pixel.
+// Node `n` of the sheet, where a place has its least pixel `first`.
 fn taken_at(
     whole: Shape,
     onto: Shape,
     places: &[Place],
     owners: &[u32],
-    sums: &[Sums],
+    first: u32,
     n: u32,
 ) -> Option<Taken>
     requires placed { LieInBoth whole onto places.now }
     requires owners { AreOwners onto.width places.now (length places.now) owners.now }
-    requires node { n < length sums.now }
-    requires first { first_in sums.now n < length owners.now }
-    ensures { IsTakenIfOwned whole.width onto.width places.now owners.now sums.now n result }
+    requires first { first < length owners.now }
+    ensures { (sums : List Entry) → first ≡ first_in sums n
+        → IsTakenIfOwned whole.width onto.width places.now owners.now sums n result }
 {
-    let first = sums[n as usize].first;
     let owner = owners[first as usize];
     if owner == 0 {
         return None;
@@ -135,7 +136,7 @@ fn taken_at(
     })
 }
 
-// The picked nodes whose least pixels some place has.
+// The picked nodes whose least pixels, as their sums have them, some place has.
 fn placed_sources(
     alloc: Global,
     whole: Shape,
@@ -147,12 +148,14 @@ fn placed_sources(
 ) -> Result<Vec<Taken>, OutOfMemory>
     requires placed { LieInBoth whole onto places.now }
     requires owners { AreOwners onto.width places.now (length places.now) owners.now }
-    requires nodes { (i n : ℕ) → slice_get picked.now i ≡ Some n → (n < length sums.now) × (first_in sums.now n < length owners.now) }
-    ensures { IfOk result (λ taken. AreTaken whole.width onto.width places.now owners.now sums.now picked.now (length picked.now) taken.items) }
+    requires one_each { length sums.now ≡ length picked.now }
+    requires firsts { (i : ℕ) (entry : Entry) → slice_get sums.now i ≡ Some entry → entry.first < length owners.now }
+    ensures { IfOk result (λ taken. (all : List Entry) → AreFirstsOf all picked.now sums.now
+        → AreTaken whole.width onto.width places.now owners.now all picked.now (length picked.now) taken.items) }
 {
     let mut taken = Vec::new(alloc);
-    for n in picked {
-        if let Some(source) = taken_at(whole, onto, places, owners, sums, *n) {
+    for (i, n) in picked.iter().enumerate() {
+        if let Some(source) = taken_at(whole, onto, places, owners, sums[i].first, *n) {
             taken.push(source)?;
         }
     }
@@ -164,12 +167,9 @@ fn sorted_sources(
     alloc: Global,
     sheet: &Sheet,
     tree: &Tree,
-    sums: &[Sums],
     choice: &Choice,
 ) -> Result<Vec<Taken>, OutOfMemory>
     requires laid_out { IsTreeOfSheet choice.now sheet.now tree.now }
-    requires sums { AreTheTrees tree.now sums.now }
-    requires exact { (connect : Connect) → tree.now ≡ tree_of sheet.now.plane connect → sums.now ≡ sums_in sheet.now.plane connect }
     requires contrast { choice.now.contrast ≤ 1000 }
     ensures back { IfOk result (λ taken. (plane : Raster) (connect : Connect) → IsLaidOut plane connect choice.now sheet.now
         → tree.now ≡ tree_of sheet.now.plane connect
@@ -183,7 +183,7 @@ fn sorted_sources(
 {
     laws_of_sheets();
     let onto = sheet.plane.shape();
-    let picked = pick(alloc, tree, sums, choice)?;
+    let picked = pick(alloc, &sheet.plane, tree, choice)?;
     let owners = owners(alloc, sheet.whole, onto, &sheet.places)?;
     let mut taken = placed_sources(
         alloc,
@@ -191,8 +191,8 @@ fn sorted_sources(
         onto,
         &sheet.places,
         &owners,
-        sums,
-        &picked,
+        &picked.sums,
+        &picked.nodes,
     )?;
     taken.sort_unstable_by_key(|source| source.first);
     Ok(taken)
@@ -220,13 +220,14 @@ fn row_back(row: &CatRow, place: &Place) -> CatRow
 }
 
 // The row of a source in the plane, with this number.
-fn taken_row(tree: &Tree, sums: &[Sums], number: u32, source: &Taken) -> CatRow
-    requires sums { AreTheTrees tree.now sums.now }
+fn taken_row(tree: &Tree, sums: &Sums, number: u32, source: &Taken) -> CatRow
+    requires sums { AreSumsOfNode tree.now source.now.node sums.now }
     requires node { IsNodeAt tree.now source.now }
     requires from_one { 1 ≤ number }
     requires few { number ≤ 2147483647 }
-    ensures exact { ForEachPlaneOf tree.now sums.now (λ s connect. (t : Raster) (h : ℤ)
-        → result ≡ row_back (part_of t h source.now.place) (catalogue_row s connect number source.now.node)) }
+    ensures exact { (s : Raster) (connect : Connect) → tree.now ≡ tree_of s connect
+        → sums.now ≡ sums_of s connect source.now.node → (t : Raster) (h : ℤ)
+        → result ≡ row_back (part_of t h source.now.place) (catalogue_row s connect number source.now.node) }
     ensures columns { FitsColumns result }
 {
     let there = row(tree, sums, number, source.node);
@@ -250,11 +251,12 @@ fn taken_cells(
     sums: &[Sums],
     taken: &[Taken],
 ) -> Result<Vec<i64>, OutOfMemory>
-    requires sums { AreTheTrees tree.now sums.now }
+    requires sums { AreSumsOfNodes tree.now (nodes_in taken.now) sums.now }
     requires nodes { (i : ℕ) (e : Source) → slice_get taken.now i ≡ Some e → IsNodeAt tree.now e }
     requires few { length taken.now ≤ 2147483647 }
-    ensures exact { IfOk result (λ table. ForEachPlaneOf tree.now sums.now (λ s connect. (h : ℤ)
-        → table.items ≡ flat_map cells_of (sheet_rows s connect (found_of s h taken.now)))) }
+    ensures exact { IfOk result (λ table. (s : Raster) (connect : Connect) → tree.now ≡ tree_of s connect
+        → sums.now ≡ map (sums_of s connect) (nodes_in taken.now) → (h : ℤ)
+        → table.items ≡ flat_map cells_of (sheet_rows s connect (found_of s h taken.now))) }
     ensures table { IfOk result (λ table. IsTable catalogue_columns table.items) }
 {
     let mut table = match Vec::with_capacity(alloc, CELLS_IN_ROW * taken.len()) {
@@ -262,7 +264,7 @@ fn taken_cells(
         Err(_) => return Err(OutOfMemory),
     };
     for (place, source) in taken.iter().enumerate() {
-        let row = taken_row(tree, sums, place as u32 + 1, source);
+        let row = taken_row(tree, &sums[place], place as u32 + 1, source);
         add_row(&mut table, &row)?;
     }
     Ok(table)
@@ -297,10 +299,10 @@ fn list_sources(
         → tree.now ≡ tree_of sheet.now.plane connect
         → AreListed plane connect choice.now sheet.now listed.nodes.items listed.cells.items) }
 {
-    let sums = sums(alloc, &sheet.plane, tree)?;
-    let taken = sorted_sources(alloc, sheet, tree, &sums, choice)?;
-    let cells = taken_cells(alloc, tree, &sums, &taken)?;
+    let taken = sorted_sources(alloc, sheet, tree, choice)?;
     let nodes = nodes_of(alloc, &taken)?;
+    let sums = sums_of_nodes(alloc, &sheet.plane, tree, &nodes)?;
+    let cells = taken_cells(alloc, tree, &sums, &taken)?;
     Ok(Listed { nodes, cells })
 }
 

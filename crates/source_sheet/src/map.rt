@@ -1,7 +1,7 @@
 //! The map of a sheet's sources, taken to the plane.
 
 ghost use Rattle.std.specs.Prelude.{◌≡◌, ◌≤◌, ◌*◌, ℕ, IfOk, length, slice_index};
-ghost use Rattle.source_pick.specs.Segmentation.{AreDisjointNodes};
+ghost use Rattle.node_sums.specs.DisjointNodes.{AreDisjointNodes};
 ghost use Rattle.source_sheet.specs.Checks.{LiesInBoth, LieInBoth};
 ghost use Rattle.source_sheet.specs.Backs.{ArePutIn, AreTakenTo, ShowsNodes};
 

@@ -1,15 +1,15 @@
 //! The sources of a plane: their segmentation map and their catalogue.
-ghost use Rattle.std.specs.Prelude.{◌≡◌, ◌≤◌, ◌++◌, IfOk, OnOk};
+ghost use Rattle.std.specs.Prelude.{◌≡◌, ◌≤◌, ◌++◌, IfOk, OnOk, map};
 ghost use Rattle.std.specs.List.{flat_map};
 ghost use Rattle.dev_io.specs.Causes.{HasCause};
 ghost use Rattle.dev_io.specs.Streams.{PutAppends};
 ghost use Rattle.comp_tree.specs.declared.shape.Connect.{Connect};
 ghost use Rattle.comp_tree.specs.Raster.{Raster};
 ghost use Rattle.comp_tree.specs.Components.{tree_of};
-ghost use Rattle.node_sums.specs.Sums.{sums_in, IsTreeOfPlane, AreTheTrees};
+ghost use Rattle.node_sums.specs.Sums.{sums_of, IsTreeOfPlane, AreSumsOfNodes};
 ghost use Rattle.fits_write.specs.Columns.{IsTable};
 ghost use Rattle.source_pick.specs.Sources.{sources};
-ghost use Rattle.source_pick.specs.Segmentation.{AreDisjointNodes};
+ghost use Rattle.node_sums.specs.DisjointNodes.{AreDisjointNodes};
 ghost use Rattle.source_pick.specs.Catalogue.{catalogue_of, cells_of};
 ghost use Rattle.fits_write.specs.CatalogueColumns.{catalogue_columns};
 ghost use Rattle.tree_products.specs.Catalogues.{hdus, detected_hdus};
@@ -22,7 +22,7 @@ use dev_io::Sink;
 use fits_write::{
     CELLS_IN_ROW, WriteFault, catalogue_columns, put_empty_primary, put_map, put_table,
 };
-use node_sums::{Sums, sums};
+use node_sums::Sums;
 use source_pick::{CatRow, Choice, cells, pick, row, segment_in_parts};
 use source_sheet::{Sheet, sources_of_sheet};
 use std::alloc::Global;
@@ -46,17 +46,17 @@ fn add_row(table: &mut Vec<i64>, row: &CatRow) -> Result<(), OutOfMemory>
     }
 }
 
-// The cells of the catalogue of these nodes, which are numbered from 1.
+// The cells of the catalogue of these nodes, by the sums of each; they are numbered from 1.
 fn table_cells(
     alloc: Global,
     tree: &Tree,
     sums: &[Sums],
     picked: &[u32],
 ) -> Result<Vec<i64>, OutOfMemory>
-    requires sums { AreTheTrees tree.now sums.now }
+    requires sums { AreSumsOfNodes tree.now picked.now sums.now }
     requires disjoint { AreDisjointNodes tree.now picked.now }
     ensures exact { IfOk result (λ table. (plane : Raster) (connect : Connect) → tree.now ≡
-        tree_of plane connect → sums.now ≡ sums_in plane connect
+        tree_of plane connect → sums.now ≡ map (sums_of plane connect) picked.now
         → table.items ≡ flat_map cells_of (catalogue_of plane connect picked.now)) }
     ensures table { IfOk result (λ table. IsTable catalogue_columns table.items) }
 {
@@ -65,7 +65,7 @@ fn table_cells(
         Err(_) => return Err(OutOfMemory),
     };
     for (place, node) in picked.iter().enumerate() {
-        let row = row(tree, sums, place as u32 + 1, *node);
+        let row = row(tree, &sums[place], place as u32 + 1, *node);
         add_row(&mut table, &row)?;
     }
     Ok(table)
@@ -95,10 +95,12 @@ fn list_sources(
         listed.cells.items ≡ flat_map cells_of (catalogue_of plane connect listed.picked.items)) }
     ensures table { IfOk result (λ listed. IsTable catalogue_columns listed.cells.items) }
 {
-    let sums = sums(alloc, &plane, tree)?;
-    let picked = pick(alloc, tree, &sums, choice)?;
-    let cells = table_cells(alloc, tree, &sums, &picked)?;
-    Ok(Listed { picked, cells })
+    let picked = pick(alloc, &plane, tree, choice)?;
+    let cells = table_cells(alloc, tree, &picked.sums, &picked.nodes)?;
+    Ok(Listed {
+        picked: picked.nodes,
+        cells,
+    })
 }
 
 /// The sources of a plane, with its tree. So many workers fill the map.

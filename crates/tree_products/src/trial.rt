@@ -5,7 +5,8 @@ ghost use Rattle.dev_io.specs.Streams.{PutAppends};
 ghost use Rattle.comp_tree.specs.declared.shape.Connect.{Connect};
 ghost use Rattle.comp_tree.specs.Raster.{Raster};
 ghost use Rattle.comp_tree.specs.Components.{tree_of};
-ghost use Rattle.node_sums.specs.Sums.{sums_in, IsTreeOfPlane, AreTheTrees};
+ghost use Rattle.node_sums.specs.Sums.{IsTreeOfPlane};
+ghost use Rattle.node_sums.specs.Outlines.{outlines_in, AreOutlinesOfTree};
 ghost use Rattle.tree_products.specs.Trials.{next_state, trial_image as image_of, is_root_row, is_mapped, total_flux, summary_of, trial_line};
 ghost use Rattle.tree_products.specs.SmallValues.{HasSmallValues};
 ghost use Rattle.tree_products.specs.TrialSizes.{HasSmallFluxes};
@@ -16,8 +17,8 @@ use costs::OutOfMemory;
 use dev_io::{Failed, Sink};
 use fits_write::WriteFault;
 use itoa::Buffer;
-use node_sums::{Sums, flux, sums};
-use source_pick::{Choice, pick, segment_in_parts};
+use node_sums::{Outline, flux_by_outlines, outlines};
+use source_pick::{Choice, pick_by_outlines, segment_in_parts};
 use std::alloc::Global;
 use std::thread::Threads;
 
@@ -92,26 +93,26 @@ fn count_mapped(numbers: &[u32]) -> u32
     mapped
 }
 
-fn sum_areas(sums: &[Sums]) -> u64
-    requires { length sums.now ≤ 2147483647 }
-    ensures { result ≡ sum_by (λ s. s.area) sums.now }
+fn sum_areas(outlines: &[Outline]) -> u64
+    requires { length outlines.now ≤ 2147483647 }
+    ensures { result ≡ sum_by (λ o. o.area) outlines.now }
 {
     let mut areas = 0;
-    for entry in sums {
+    for entry in outlines {
         areas += entry.area as u64;
     }
     areas
 }
 
-fn sum_fluxes(tree: &Tree, sums: &[Sums]) -> u64
-    requires sums { AreTheTrees tree.now sums.now }
-    requires small { HasSmallFluxes tree.now sums.now }
-    ensures { (plane : Raster) (connect : Connect) → tree.now ≡ tree_of plane connect → sums.now ≡
-        sums_in plane connect → result ≡ total_flux plane connect }
+fn sum_fluxes(tree: &Tree, outlines: &[Outline]) -> u64
+    requires outlines { AreOutlinesOfTree tree.now outlines.now }
+    requires small { HasSmallFluxes tree.now outlines.now }
+    ensures { (plane : Raster) (connect : Connect) → tree.now ≡ tree_of plane connect → outlines.now ≡
+        outlines_in plane connect → result ≡ total_flux plane connect }
 {
     let mut fluxes = 0;
     for n in 0..tree.node_count() {
-        fluxes += flux(tree, sums, n).unsigned_abs();
+        fluxes += flux_by_outlines(tree, outlines, n).unsigned_abs();
     }
     fluxes
 }
@@ -146,15 +147,15 @@ fn summary_in<R: Threads + Sync>(
         summary ≡ summary_of plane.now connect) }
 {
     let shape = plane.shape();
-    let sums = sums(alloc, plane, tree)?;
-    let sources = pick(alloc, tree, &sums, &CHOICE)?;
+    let outlines = outlines(alloc, plane, tree)?;
+    let sources = pick_by_outlines(alloc, plane, tree, &outlines, &CHOICE)?.nodes;
     let numbers = segment_in_parts(rt, alloc, tree, &sources, workers)?;
     Ok(Summary {
         pixels: shape.pixels(),
         nodes: tree.node_count(),
         roots: count_roots(tree.rows()),
-        areas: sum_areas(&sums),
-        fluxes: sum_fluxes(tree, &sums),
+        areas: sum_areas(&outlines),
+        fluxes: sum_fluxes(tree, &outlines),
         sources: sources.len() as u32,
         mapped: count_mapped(&numbers),
     })

@@ -12,8 +12,8 @@ overflow_cast-count c = record { fits = omega (arith, c.node_count-count.ensures
 pub returns-in_err-entries : goal.returns-in_err-entries
 returns-in_err-entries c = IfOk-from_err _ _ c.from_residual.ensures.0
 
-pub find_entries-requires-clause-sums : goal.find_entries-requires-clause-sums
-find_entries-requires-clause-sums c = c.requires
+pub find_entries-requires-clause-outlines : goal.find_entries-requires-clause-outlines
+find_entries-requires-clause-outlines c = c.requires
 
 pub find_entries-requires-clause-one_each : goal.find_entries-requires-clause-one_each
 find_entries-requires-clause-one_each c =
@@ -22,5 +22,5 @@ find_entries-requires-clause-one_each c =
 
 pub returns : goal.returns
 returns c =
-    subst (λ (xs : List ℕ). AreEntries c.args.choice.now c.args.tree.now c.args.sums.now (length c.args.tree.now.rows) xs)
+    subst (λ (xs : List ℕ). AreEntries c.args.choice.now c.args.tree.now c.args.outlines.now (length c.args.tree.now.rows) xs)
     (sym (take_front c.find_entries.new.entries _ _ (c.find_entries.auto.entries ∙ c.deref_mut.ensures.len))) c.find_entries.ensures

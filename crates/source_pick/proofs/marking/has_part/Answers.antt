@@ -7,15 +7,15 @@ use Rattle.source_pick.proofs.marking.has_part.Goals as goal
 
 pub overflow_mul-result-2 : goal.overflow_mul-result-2
 overflow_mul-result-2 c =
-    let whole : SFits w64 c.flux-whole.result = search rules in
+    let whole : SFits w64 c.flux_by_outlines-whole.result = search rules in
     let few : c.args.choice.now.contrast < 2 ^ 32 = search rules in
-    subst (λ (z : ℤ). SFits w128 z) (sym (product-read c.args.choice.now.contrast c.flux-whole.result few whole))
-    (part_fits c.args.choice.now.contrast c.flux-whole.result few whole)
+    subst (λ (z : ℤ). SFits w128 z) (sym (product-read c.args.choice.now.contrast c.flux_by_outlines-whole.result few whole))
+    (part_fits c.args.choice.now.contrast c.flux_by_outlines-whole.result few whole)
 
 pub returns : goal.returns
-returns c = λ r connect of_tree of_sums is_plane.
-    let whole : SFits w64 c.flux-whole.result = search rules in
-    let part : SFits w64 c.flux-part.result = search rules in
+returns c = λ r connect of_tree of_outlines is_plane.
+    let whole : SFits w64 c.flux_by_outlines-whole.result = search rules in
+    let part : SFits w64 c.flux_by_outlines-part.result = search rules in
     let few : c.args.choice.now.contrast < 2 ^ 32 = search rules in
-    contrast-read r connect c.args.choice.now c.args.n c.args.entry c.flux-whole.result c.flux-part.result few whole part
-    (c.flux-whole.ensures.exact r connect of_tree of_sums) (c.flux-part.ensures.exact r connect of_tree of_sums)
+    contrast-read r connect c.args.choice.now c.args.n c.args.entry c.flux_by_outlines-whole.result c.flux_by_outlines-part.result few whole part
+    (c.flux_by_outlines-whole.ensures.exact r connect of_tree of_outlines) (c.flux_by_outlines-part.ensures.exact r connect of_tree of_outlines)

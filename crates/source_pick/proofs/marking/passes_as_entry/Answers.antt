@@ -6,7 +6,7 @@ use Rattle.source_pick.proofs.PassesStrong.{entry_below, entry_not_lowest, entry
 use Rattle.source_pick.proofs.marking.passes_as_entry.Goals as goal
 
 pub returns-then-rows-n : goal.returns-then-rows-n
-returns-then-rows-n c = λ r connect of_tree of_sums is_plane.
+returns-then-rows-n c = λ r connect of_tree of_outlines is_plane.
     let threshold : SFits w64 c.args.choice.now.threshold = search rules in
     entry_below r connect c.args.choice.now c.args.n
     (sym (less-read _ c.args.choice.now.threshold _ _ (search rules) threshold
@@ -14,12 +14,12 @@ returns-then-rows-n c = λ r connect of_tree of_sums is_plane.
 
 pub returns-then-not-lies_lowest : goal.returns-then-not-lies_lowest
 returns-then-not-lies_lowest c =
-    λ r connect of_tree of_sums is_plane. entry_not_lowest r connect c.args.choice.now c.args.n (c.if-not-lies_lowest.ensures r connect of_tree)
+    λ r connect of_tree of_outlines is_plane. entry_not_lowest r connect c.args.choice.now c.args.n (c.if-not-lies_lowest.ensures r connect of_tree)
 
 pub returns : goal.returns
-returns c = λ r connect of_tree of_sums is_plane.
+returns c = λ r connect of_tree of_outlines is_plane.
     let threshold : SFits w64 c.args.choice.now.threshold = search rules in
     entry_if_large r connect c.args.choice.now c.args.n _
     (sym (less-read _ c.args.choice.now.threshold _ _ (search rules) threshold
     (level-read r connect c.args.tree.now c.rows.result.now c.args.n _ of_tree c.rows.ensures c.requires.node) refl) ∙ c.if-rows-n.false)
-    (c.if-not-lies_lowest.ensures r connect of_tree) (c.has_size.ensures r connect of_tree of_sums is_plane)
+    (c.if-not-lies_lowest.ensures r connect of_tree) (c.has_size.ensures r connect of_tree of_outlines is_plane)

@@ -11,8 +11,8 @@ overflow_cast-count c = record { fits = omega (arith, c.node_count-count.ensures
 pub returns-in_err-strong : goal.returns-in_err-strong
 returns-in_err-strong c = IfOk-from_err _ _ c.from_residual.ensures.0
 
-pub find_strong-requires-clause-sums : goal.find_strong-requires-clause-sums
-find_strong-requires-clause-sums c = c.requires.sums
+pub find_strong-requires-clause-outlines : goal.find_strong-requires-clause-outlines
+find_strong-requires-clause-outlines c = c.requires.outlines
 
 pub find_strong-requires-clause-entries : goal.find_strong-requires-clause-entries
 find_strong-requires-clause-entries c = c.requires.entries
@@ -24,5 +24,5 @@ find_strong-requires-clause-one_each c =
 
 pub returns : goal.returns
 returns c =
-    subst (λ (xs : List Bool). AreStrong c.args.choice.now c.args.tree.now c.args.sums.now (length c.args.tree.now.rows) xs)
+    subst (λ (xs : List Bool). AreStrong c.args.choice.now c.args.tree.now c.args.outlines.now (length c.args.tree.now.rows) xs)
     (sym (take_front c.find_strong.new.strong _ _ (c.find_strong.auto.strong ∙ c.deref_mut.ensures.len))) c.find_strong.ensures

@@ -25,12 +25,12 @@ entries_of_nodes-requires c = c.requires
 pub returns-in_err-entries : goal.returns-in_err-entries
 returns-in_err-entries c = IfOk-from_err _ _ c.from_residual.ensures.0
 
-pub strong_nodes-requires-clause-sums : goal.strong_nodes-requires-clause-sums
-strong_nodes-requires-clause-sums c = c.requires
+pub strong_nodes-requires-clause-outlines : goal.strong_nodes-requires-clause-outlines
+strong_nodes-requires-clause-outlines c = c.requires
 
 pub strong_nodes-requires-clause-entries : goal.strong_nodes-requires-clause-entries
 strong_nodes-requires-clause-entries c =
-    subst (λ (xs : List ℕ). AreEntries c.args.choice.now c.args.tree.now c.args.sums.now (length c.args.tree.now.rows) xs) (sym c.deref.ensures.value)
+    subst (λ (xs : List ℕ). AreEntries c.args.choice.now c.args.tree.now c.args.outlines.now (length c.args.tree.now.rows) xs) (sym c.deref.ensures.value)
     c.in_ok-entries.ensures
 
 pub returns-in_err-strong : goal.returns-in_err-strong
@@ -69,9 +69,9 @@ source_flags-requires-clause-above c =
 
 pub returns : goal.returns
 returns c =
-    flags_exact c.source_flags.result c.args.choice.now c.args.tree.now c.args.sums.now c.deref-5.result.now c.deref-6.result.now
-    (subst (λ (xs : List ℕ). AreEntries c.args.choice.now c.args.tree.now c.args.sums.now (length c.args.tree.now.rows) xs) (sym c.deref-5.ensures.value)
+    flags_exact c.source_flags.result c.args.choice.now c.args.tree.now c.args.outlines.now c.deref-5.result.now c.deref-6.result.now
+    (subst (λ (xs : List ℕ). AreEntries c.args.choice.now c.args.tree.now c.args.outlines.now (length c.args.tree.now.rows) xs) (sym c.deref-5.ensures.value)
     c.in_ok-entries.ensures)
-    (subst (λ (xs : List Bool). AreStrong c.args.choice.now c.args.tree.now c.args.sums.now (length c.args.tree.now.rows) xs) (sym c.deref-6.ensures.value)
+    (subst (λ (xs : List Bool). AreStrong c.args.choice.now c.args.tree.now c.args.outlines.now (length c.args.tree.now.rows) xs) (sym c.deref-6.ensures.value)
     c.in_ok-strong.ensures)
     c.source_flags.ensures

@@ -1,8 +1,10 @@
-use Rattle.std.proofs.Common.{length}
-use Rattle.source_pick.specs.declared.choice.Choice.{Choice}
-use Rattle.source_pick.specs.Passes.{AreSources, ArePlacedSources}
+use Rattle.std.proofs.Common.{◌≡◌, map, take}
+use Rattle.comp_tree.specs.declared.shape.Connect.{Connect}
+use Rattle.comp_tree.specs.Raster.{Raster}
+use Rattle.node_sums.specs.Sums.{sums_of}
+use Rattle.source_pick.specs.Passes.{with_sums}
 use Rattle.source_pick.proofs.picking.placed_sources.Given as goal
 
-abbrev pub invariant-loop-n : goal.invariant-loop-n
-invariant-loop-n l = (choice : Choice) → AreSources choice l.tree l.sums (length l.tree.rows) l.flags
-    → ArePlacedSources choice l.tree l.sums l.n l.placed.items
+abbrev pub invariant-loop-i : goal.invariant-loop-i
+invariant-loop-i l = (r : Raster) (connect : Connect) → l.sums ≡ map (sums_of r connect) l.nodes
+    → l.placed.items ≡ map (with_sums r connect) (take l.i l.nodes)

@@ -2,7 +2,7 @@ use Rattle.std.proofs.Common.{◌∙◌, ℕ, List, replicate, sym, ap, subst, l
 use Rattle.std.proofs.lemmas.List.{length-replicate}
 use Rattle.std.proofs.lemmas.Result.{IfOk-from_err}
 use Rattle.node_sums.proofs.Exported.{take_front}
-use Rattle.source_pick.specs.Passes.{AreNumbered}
+use Rattle.node_sums.specs.DisjointNodes.{AreNumbered}
 use Rattle.source_pick.proofs.PassesMarks.{map_bound}
 use Rattle.source_pick.proofs.segmenting.segment_in_parts.Goals as goal
 

@@ -10,8 +10,18 @@ use Rattle.comp_tree.specs.Components.{nodes, is_in_node, tree_of}
 use Rattle.comp_tree.specs.Nesting.{level_of_node}
 use Rattle.comp_tree.specs.Laws.{IsAncestor, parent, above, top_of, IsNestedIn}
 use Rattle.comp_tree.proofs.Exported.{top_inside, length-rows, ancestors_are_the_larger_nodes}
-use Rattle.node_sums.proofs.Exported.{goes_down, holders_are_nested, ancestor_smaller, level-of_node, level_at_least}
-use Rattle.source_pick.specs.Passes.{IsOnWay}
+use Rattle.node_sums.specs.NodeNumbers.{IsOnWay}
+use Rattle.node_sums.proofs.Counting.{goes_down, holders_are_nested, ancestor_smaller}
+use Rattle.node_sums.proofs.Fluxes.{level-of_node, level_at_least}
+
+-- ---- rows and nodes
+
+-- a number of a row is a node's
+pub node_from_row : (r : Raster) (connect : Connect) (n : ℕ) → n < length (tree_of r connect).rows → n < length (nodes r connect)
+node_from_row r connect n h = let l : length (tree_of r connect).rows ≡ length (nodes r connect) = length-rows r connect in omega arith
+
+pub row_from_node : (r : Raster) (connect : Connect) (n : ℕ) → n < length (nodes r connect) → n < length (tree_of r connect).rows
+row_from_node r connect n h = let l : length (tree_of r connect).rows ≡ length (nodes r connect) = length-rows r connect in omega arith
 
 -- ---- ways upwards
 

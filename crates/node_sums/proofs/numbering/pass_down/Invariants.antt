@@ -1,8 +1,9 @@
 use Rattle.std.proofs.Common.{◌≡◌, ℕ, ◌≤◌, List, length}
 use Rattle.std.specs.Prelude.{slice_index}
-use Rattle.source_pick.specs.Segmentation.{AreDisjointNodes}
-use Rattle.source_pick.specs.Passes.{AreMarked, AreNumbered}
-use Rattle.source_pick.proofs.segmenting.pass_down.Given as goal
+use Rattle.node_sums.specs.DisjointNodes.{AreDisjointNodes}
+use Rattle.node_sums.specs.NodeNumbers.{AreMarked}
+use Rattle.node_sums.specs.DisjointNodes.{AreNumbered}
+use Rattle.node_sums.proofs.numbering.pass_down.Given as goal
 
 abbrev pub invariant-loop-n : goal.invariant-loop-n
 invariant-loop-n l = record {

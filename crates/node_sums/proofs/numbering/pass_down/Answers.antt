@@ -1,11 +1,11 @@
 use Rattle.std.proofs.Common.{◌≡◌, ◌∙◌, ◌+◌, ◌<◌, ℕ, List, sym, ap, subst, refl, arith, length}
 use Rattle.std.specs.Prelude.{slice_index}
-use Rattle.source_pick.specs.Passes.{AreNumbered}
-use Rattle.node_sums.proofs.Exported.{some_parent_smaller}
-use Rattle.source_pick.proofs.PassesMarks.{numbered_none, numbered_child, numbered_marked, numbered_root, numbered_up_to, untouched, untouched_yet}
-use Rattle.source_pick.proofs.segmenting.pass_down.Goals.{then-numbers-n-eq0+then-parent, else-numbers-n-eq0}
-use Rattle.source_pick.proofs.segmenting.pass_down.Goals.{else-numbers-n-eq0-via-then-numbers-n-eq0+else-parent, else-numbers-n-eq0-via-else-numbers-n-eq0}
-use Rattle.source_pick.proofs.segmenting.pass_down.Goals as goal
+use Rattle.node_sums.specs.DisjointNodes.{AreNumbered}
+use Rattle.node_sums.proofs.Reading.{some_parent_smaller}
+use Rattle.node_sums.proofs.Marks.{numbered_none, numbered_child, numbered_marked, numbered_root, numbered_up_to, untouched, untouched_yet}
+use Rattle.node_sums.proofs.numbering.pass_down.Goals.{then-numbers-n-eq0+then-parent, else-numbers-n-eq0}
+use Rattle.node_sums.proofs.numbering.pass_down.Goals.{else-numbers-n-eq0-via-then-numbers-n-eq0+else-parent, else-numbers-n-eq0-via-else-numbers-n-eq0}
+use Rattle.node_sums.proofs.numbering.pass_down.Goals as goal
 
 pub loop-n-init : goal.loop-n-init
 loop-n-init c = record { done = λ marked d m. numbered_none c.args.tree.now marked c.args.numbers.now c.requires; rest = λ m l. refl }
