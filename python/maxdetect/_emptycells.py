@@ -3,8 +3,7 @@ from typing import Optional
 
 import numpy
 
-from ._maps import ROWS
-from ._wholenumbers import parts, undefined_of, value_range
+from ._wholenumbers import AT_ONCE, parts, undefined_of, value_range
 
 __all__ = ["lower_median", "number_of"]
 
@@ -20,7 +19,7 @@ def number_of(image: numpy.ndarray, blank: Optional[int], mesh: int) -> Optional
 def _has_empty_cell(image: numpy.ndarray, blank: Optional[int], mesh: int) -> bool:
     if mesh < 1 or (blank is None and numpy.ma.getmask(image) is numpy.ma.nomask):
         return False
-    lefts, step = numpy.arange(0, image.shape[1], mesh), mesh * max(1, ROWS // mesh)
+    lefts, step = numpy.arange(0, image.shape[1], mesh), mesh * max(1, AT_ONCE // mesh)
     for top in range(0, len(image), step):
         undefined = undefined_of(image[top : top + step], blank)
         if undefined is not None:

@@ -5,15 +5,16 @@ from typing import Any, Iterator, Optional, Tuple, Union
 import numpy
 from astropy.io import fits
 
-from ._maps import ROWS
-
-__all__ = ["LEAST", "MOST_PIXELS", "MOST_SIDE", "WIDE_VALUE", "fits_of", "fits_of_stored", "is_too_large", "parts"]
-__all__ += ["undefined_of", "value_range", "whole_number", "whole_numbers"]
+__all__ = ["AT_ONCE", "LEAST", "MOST_PIXELS", "MOST_SIDE", "WIDE_VALUE", "fits_of", "fits_of_stored", "is_too_large"]
+__all__ += ["parts", "undefined_of", "value_range", "whole_number", "whole_numbers"]
 
 # How many pixels maxdetect takes, and maxwide; how many on a side; and how far from 0 values lie in an image with no
 # more than maxdetect takes, and in larger ones.
 MOST_PIXELS, WIDE_PIXELS, MOST_SIDE = 2**24, 2**31 - 1, 65535
 MOST_VALUE, WIDE_VALUE = 2**36, 2**29
+
+# So many rows of an image are looked at at a time.
+AT_ONCE = 256
 
 # A file, some bytes at a time.
 Pieces = Iterator[Union[bytes, numpy.ndarray]]
@@ -57,8 +58,8 @@ def is_too_large(image: numpy.ndarray) -> bool:
 
 def parts(image: numpy.ndarray, blank: Optional[int]) -> Iterator[Tuple[numpy.ndarray, Optional[numpy.ndarray]]]:
     """The values of an image, some rows at a time, and which of them are undefined (None: none is)."""
-    for top in range(0, len(image), ROWS):
-        rows = image[top : top + ROWS]
+    for top in range(0, len(image), AT_ONCE):
+        rows = image[top : top + AT_ONCE]
         yield numpy.ma.getdata(rows), undefined_of(rows, blank)
 
 
@@ -117,8 +118,8 @@ def fits_of_stored(stored: numpy.ndarray) -> Pieces:
     """The same of 32-bit numbers as they are to be stored, the least of them for an undefined pixel."""
     yield _header(stored.shape, 32, BLANK=LEAST)
     # Some rows at a time, since a copy of all of them would stand beside the program.
-    for top in range(0, len(stored), ROWS):
-        yield stored[top : top + ROWS].astype(">i4", order="C").reshape(-1).view("u1")
+    for top in range(0, len(stored), AT_ONCE):
+        yield stored[top : top + AT_ONCE].astype(">i4", order="C").reshape(-1).view("u1")
     yield bytes(-4 * stored.size % 2880)
 
 
