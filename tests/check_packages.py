@@ -4,7 +4,7 @@ usage: python3 tests/check_packages.py PACKAGES      (exit status 1 where someth
 
 The wheel goes into a virtual environment, the Debian package into an empty root by dpkg, the archive into a prefix as
 its INSTALL says. In each: a star field; maxcat, whose catalogue the three have alike; maxdetect and maxsurvey; `import
-maxdetect`, which finds the program that came with it. At the end no file of the package is left. The completion has
+maxdetect`, which finds the programs that came with it. At the end no file of the package is left. The completion has
 the options that maxcat's help and maxdetect's man page tell. What a tool is lacking for is skipped, and says so.
 
 Wanted: numpy, astropy, scipy, sep and tqdm in this Python, without the repository's package or programs on its paths.
@@ -22,7 +22,10 @@ import tempfile
 import venv
 from typing import Callable
 
-ASK = "import maxdetect; print(maxdetect.__version__); print(maxdetect.find_program())"
+ASK = """
+import maxdetect
+print(maxdetect.__version__, *(maxdetect.find_program(name=name) for name in ("maxdetect", "maxwide", "maxsurvey")))
+"""
 # Words behind maxdetect, after which its options are offered.
 COMMANDS = ("detect", "measure", "filter", "tree", "trial")
 
@@ -157,10 +160,10 @@ def first_look(place, work):
 
 
 def imported(place, version):
-    """`import maxdetect` gives the package's version, and its own program."""
-    told, program = done([place.python, "-c", ASK], env=place.environment(), cwd="/").decode().splitlines()
-    if told != version or not pathlib.Path(program).resolve().is_relative_to(place.prefix.resolve()):
-        raise Amiss(f"version {told} finds {program}")
+    """`import maxdetect` gives the package's version, and its own programs."""
+    told, *programs = done([place.python, "-c", ASK], env=place.environment(), cwd="/").decode().split()
+    if told != version or not all(pathlib.Path(it).resolve().is_relative_to(place.prefix.resolve()) for it in programs):
+        raise Amiss(f"version {told} finds {programs}")
     line = done([place.prefix / "bin/maxcat", "--version"], env=place.environment()).decode()
     if line != f"maxcat {version}\n":
         raise Amiss(f"maxcat --version prints {line!r}")

@@ -37,21 +37,22 @@ def wanted(code):
     return first.split(":", 1)[1].split() if first.startswith("# wants:") else []
 
 
-def survey_program(program):
-    """Beside the program, or where the repository has it."""
-    places = [pathlib.Path(program).with_name("maxsurvey"), TOP / "crates" / "maxsurvey" / "out" / "maxsurvey"]
+def other_program(program, name):
+    """One beside the program, or where the repository has it."""
+    places = [pathlib.Path(program).with_name(name), TOP / "crates" / name / "out" / name]
     return next((it for it in places if it.exists()), places[1])
 
 
 def surroundings(folder, program):
-    """The environment of the blocks: `maxcat` and `maxsurvey` on the PATH, and the package for Python."""
+    """The environment of the blocks: `maxcat` and the programs on the PATH, and the package for Python."""
     tools = folder / "tools"
     tools.mkdir()
     command = tools / "maxcat"
     command.write_text(f'#!/bin/sh\nexec "{sys.executable}" -m maxdetect._cli "$@"\n')
     command.chmod(0o755)
     (tools / "python3").symlink_to(sys.executable)
-    (tools / "maxsurvey").symlink_to(survey_program(program))
+    for name in ("maxwide", "maxsurvey"):
+        (tools / name).symlink_to(other_program(program, name))
     paths = {"PATH": f"{tools}:{os.environ['PATH']}", "PYTHONPATH": os.fspath(TOP / "python")}
     return {**os.environ, **paths, "MAXDETECT": program, "MAXDETECT_HOME": os.fspath(TOP)}
 
@@ -61,7 +62,7 @@ def furnished(folder, program):
     kitchen = folder / "kitchen"
     kitchen.mkdir()
     links = {"examples": TOP / "examples", "python": TOP / "python", "maxcat": folder / "tools" / "maxcat"}
-    links.update({"maxdetect": pathlib.Path(program), "maxsurvey": survey_program(program)})
+    links.update({"maxdetect": pathlib.Path(program), "maxsurvey": other_program(program, "maxsurvey")})
     for name, place in links.items():
         (kitchen / name).symlink_to(place)
     return kitchen

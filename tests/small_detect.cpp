@@ -1,5 +1,5 @@
-// What `maxdetect detect` answers, for images of some thousand pixels, as a function in a library: the stand-in with
-// which tests/compare_tiles.py compares tiles with the whole many times. Written from docs/FORMATS.md and docs/DEFINITIONS.md, with no
+// What `maxdetect detect --mesh 0 --connect 8` answers, for images of some thousand pixels, as a function in a library: the stand-in with
+// which tests/compare_tiles.py compares windows with the whole many times. Written from docs/FORMATS.md and docs/DEFINITIONS.md, with no
 // part of the program.
 #include <algorithm>
 #include <cstdint>
@@ -10,45 +10,6 @@ typedef int64_t i64;
 typedef std::vector<i64> Numbers;
 
 static i64 floor_of(i64 a, i64 b) { return a / b - (a % b < 0); }
-
-static i64 lower_median(Numbers &numbers) {
-    if (numbers.empty()) return 0;
-    auto middle = numbers.begin() + (numbers.size() - 1) / 2;
-    std::nth_element(numbers.begin(), middle, numbers.end());
-    return *middle;
-}
-
-// The residual of an image, in place.
-static void take_background(i64 *values, const uint8_t *defined, int width, int height, int mesh, bool flat) {
-    const int across = (width + mesh - 1) / mesh, along = (height + mesh - 1) / mesh;
-    Numbers all, levels(across * along), filtered(across * along);
-    for (int p = 0; p < width * height; ++p) if (defined[p]) all.push_back(values[p]);
-    const i64 everywhere = lower_median(all);
-    for (int j = 0; j < along; ++j) for (int i = 0; i < across; ++i) {
-        Numbers cell;
-        for (int y = j * mesh; y < std::min(height, (j + 1) * mesh); ++y)
-            for (int x = i * mesh; x < std::min(width, (i + 1) * mesh); ++x)
-                if (defined[y * width + x]) cell.push_back(values[y * width + x]);
-        levels[j * across + i] = cell.empty() ? everywhere : lower_median(cell);
-    }
-    for (int j = 0; j < along; ++j) for (int i = 0; i < across; ++i) {
-        Numbers near;
-        for (int m = std::max(0, j - 1); m < std::min(along, j + 2); ++m)
-            for (int k = std::max(0, i - 1); k < std::min(across, i + 2); ++k) near.push_back(levels[m * across + k]);
-        filtered[j * across + i] = lower_median(near);
-    }
-    auto clipped = [](i64 at, int count) { return std::min<i64>(std::max<i64>(at, 0), count - 1); };
-    const i64 two = 2 * mesh;
-    for (int y = 0; y < height; ++y) for (int x = 0; x < width; ++x) {
-        if (flat) { values[y * width + x] -= levels[y / mesh * across + x / mesh]; continue; }
-        const i64 i = floor_of(2 * x + 1 - mesh, two), j = floor_of(2 * y + 1 - mesh, two);
-        const i64 a = 2 * x + 1 - mesh - i * two, b = 2 * y + 1 - mesh - j * two;
-        i64 total = 0;
-        for (int k = 0; k < 2; ++k) for (int m = 0; m < 2; ++m)
-            total += (k ? a : two - a) * (m ? b : two - b) * filtered[clipped(j + m, along) * across + clipped(i + k, across)];
-        values[y * width + x] -= floor_of(total, two * two);
-    }
-}
 
 struct Node {
     i64 area = 0, sum = 0, peak = 0, x = 0, y = 0, xx = 0, yy = 0, xy = 0, vx = 0, vy = 0, base = 0, flux = 0;
@@ -64,11 +25,10 @@ struct Node {
 
 static int root_of(std::vector<int> &up, int p) { while (up[p] != p) p = up[p] = up[up[p]]; return p; }
 
-// The number of sources. `values` becomes the residual, `map` has the sources' numbers, and `rows` seventeen cells for each source.
-extern "C" int small_detect(i64 *values, const uint8_t *defined, int width, int height, i64 threshold, i64 min_area, i64 min_flux, i64 contrast,
-                            int mesh, int flat, int connect, int32_t *map, i64 *rows) {
+// The number of sources. `map` gets the sources' numbers, and `rows` seventeen cells for each source.
+extern "C" int small_detect(const i64 *values, const uint8_t *defined, int width, int height, i64 threshold, i64 min_area, i64 min_flux,
+                            i64 contrast, int32_t *map, i64 *rows) {
     const int count = width * height;
-    if (mesh) take_background(values, defined, width, height, mesh, flat);
     std::vector<int> order, up(count, -1), parent(count, -1);
     for (int p = 0; p < count; ++p) if (defined[p]) order.push_back(p);
     std::stable_sort(order.begin(), order.end(), [&](int p, int q) { return values[p] > values[q]; });
@@ -76,7 +36,7 @@ extern "C" int small_detect(i64 *values, const uint8_t *defined, int width, int 
         up[p] = parent[p] = p;
         for (int dy = -1; dy <= 1; ++dy) for (int dx = -1; dx <= 1; ++dx) {
             const int x = p % width + dx, y = p / width + dy;
-            if ((!dx && !dy) || (connect == 4 && dx && dy) || x < 0 || y < 0 || x >= width || y >= height || up[y * width + x] < 0) continue;
+            if ((!dx && !dy) || x < 0 || y < 0 || x >= width || y >= height || up[y * width + x] < 0) continue;
             const int root = root_of(up, y * width + x);
             if (root != p) up[root] = parent[root] = p;
         }

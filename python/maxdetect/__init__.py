@@ -1,10 +1,10 @@
 """Maxdetect: sources of astronomical images by their max-trees.
 
-`detect`, `measure`, `filter` and `tree` call the proved program for an image of whole numbers. All else is around it,
-in floating point, and outside of what is proved: `noise` and `noise_map`, `detect_tiles` for images of any size, and
-the command `maxcat`, which goes from any image to a catalogue. `survey` opens what `maxsurvey` keeps of many fields,
-`add` gives it a catalogue, and `match` finds the same sources in two. The modules `photometry` and `scaling` are public
-too; all others are the package's own.
+`detect`, `measure`, `filter` and `tree` call the proved program for an image of whole numbers, `detect_tiles` for a
+large one. All else is around it, in floating point, and outside of what is proved: `noise` and `noise_map`, and the
+command `maxcat`, which goes from any image to a catalogue. `survey` opens what `maxsurvey` keeps of many fields, `add`
+gives it a catalogue, and `match` finds the same sources in two. The modules `photometry` and `scaling` are public too;
+all others are the package's own.
 """
 import importlib
 from typing import TYPE_CHECKING, Any, List

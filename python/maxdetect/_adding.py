@@ -1,7 +1,6 @@
 """From a catalogue of `maxcat` to a field of a survey: what `maxsurvey` reads of it, and the call that adds it."""
 import io
 import os
-import pathlib
 import re
 import shutil
 import sqlite3
@@ -16,9 +15,9 @@ from astropy.table import Table
 from . import _survey_files as survey_files, _surveys as surveys
 from ._columns import CATALOGUE
 from ._errors import Mistake
-from ._kernel import NoProgram
+from ._kernel import NoProgram, find_program
 
-__all__ = ["add", "find_survey_program", "survey_file"]
+__all__ = ["add", "survey_file"]
 
 GREATEST = 2**62
 # What a database may have that keeps maxsurvey out, as the man page lists it; of views nothing is told.
@@ -43,24 +42,6 @@ CAUSES = {
     5: "memory is wanted",
     KEEPER: "the file couldn't be opened or written",
 }
-
-
-def find_survey_program(program: Optional[str] = None) -> str:
-    """The path of maxsurvey: `program`, or where MAXSURVEY, the package, the PATH or the repository has it. Raises
-    NoProgram.
-    """
-    package = pathlib.Path(__file__).resolve().parent
-    built = package.parent.parent / "crates" / "maxsurvey" / "out" / "maxsurvey"
-    found = (
-        program
-        or os.environ.get("MAXSURVEY")
-        or shutil.which(os.fspath(package / "bin" / "maxsurvey"))
-        or shutil.which("maxsurvey")
-        or (built if built.exists() else None)
-    )
-    if not found:
-        raise NoProgram("maxsurvey isn't on the PATH; name it in the environment's MAXSURVEY, or build it")
-    return os.fspath(found)
 
 
 def _whole_fluxes(table: Table, unit: float) -> numpy.ndarray:
@@ -162,7 +143,7 @@ def add(
     unit : float, default: 1.0
         Fluxes are kept in whole numbers of this unit, which is in the image's units.
     program : str, optional
-        The path of `maxsurvey`; by default the environment's MAXSURVEY, the package, the PATH or the repository has it.
+        The path of `maxsurvey`, by default that of `find_program`.
 
     Raises
     ------
@@ -174,7 +155,7 @@ def add(
         raise Mistake(f"{field!r} is no field's name: 1 to 16 letters, digits, underscores or hyphens")
     if os.path.isdir(path):
         raise Mistake(f"{path} is a folder")
-    words = [find_survey_program(program), "--file", path, "add", field]
+    words = [find_program(program, "maxsurvey"), "--file", path, "add", field]
     written = survey_file(table, unit)
     with survey_files.alone(path):
         try:

@@ -42,6 +42,8 @@ ROWS = 256
 # How far a tile's window reaches beyond its core, in pixels; and how many cores along a side of the squares by which
 # components are cut that are too large for any window.
 MARGIN, SQUARE = 64, 2
+# How many neighbours a pixel has.
+CONNECT = 8
 
 
 class Detector:
@@ -52,10 +54,9 @@ class Detector:
         self.sky = found if self.settings.mesh else found.flat()
         self.strips: Dict[str, int] = {}
         self.own_turn, self.program_turn = contextlib.nullcontext(), contextlib.nullcontext()
-        whole = Box(0, field.shape[0], 0, field.shape[1])
         reach = cleaning.reach(how.width) if self.settings.clean else 1
         tile = self.settings.tile
-        self.plan = Plan(field.shape, whole, tile, MARGIN, reach=reach, square=SQUARE * tile)
+        self.plan = Plan(field.shape, tile, MARGIN, reach, SQUARE * tile)
 
     def noise(self, rows: slice, columns: slice) -> Union[float, numpy.ndarray]:
         """The noise of a window's pixels, in the image's units: one number, or an array."""
@@ -85,7 +86,7 @@ class Detector:
         whether it is more than a peak of noise on faint light.
         """
         how, settings = self.how, self.settings
-        options = {"min_area": how.min_area, "contrast": settings.contrast or 0, "connect": self.plan.connect}
+        options = {"min_area": how.min_area, "contrast": settings.contrast or 0, "connect": CONNECT}
         with self.own_turn:
             numbers = self.numbers(box)
         with self.program_turn:
@@ -104,12 +105,7 @@ class Detector:
             parts.catalogue["KEPT"] = cleaning.kept(
                 numbers, parts.segments, parts.labels, how.threshold, how.min_area, how.width, how.variance
             )
-        return holding.Look(
-            parts.catalogue,
-            parts.segments,
-            lambda rows, columns: numbers[rows, columns] >= how.threshold,
-            parts.labels,
-        )
+        return holding.Look(parts.catalogue, parts.segments, parts.labels, numbers >= how.threshold)
 
 
 def sources(

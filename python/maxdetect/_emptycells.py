@@ -1,95 +1,49 @@
-"""Cells of the program's mesh without a defined pixel, in an image that is looked at in windows.
-
-Such a cell takes the lower median of all that the program sees, so of a window it would take that of the window, and
-not that of the whole. Here stands all that is done about it: the cell gets one defined pixel with the median of the
-whole, where all pixels around are undefined, and what is found of that pixel is left out again.
-"""
-import dataclasses
-from typing import List, Optional, Tuple
+"""What a cell of the program's mesh without a defined pixel has as its number: the lower median of the whole image."""
+from typing import Optional
 
 import numpy
 
-from . import _kernel as kernel
-from ._background import lower_median
-from ._joining import numbered
-from ._rows import Rows
-from ._windows import firsts
+from ._wholenumbers import AT_ONCE, parts, undefined_of, value_range
 
-__all__ = ["Filling", "among", "left_out", "median", "room_for", "without_room"]
+__all__ = ["lower_median", "number_of"]
 
-
-def _undefined_cells(undefined: numpy.ndarray, mesh: int) -> numpy.ndarray:
-    """Which cells of the mesh have undefined pixels alone."""
-    tops, lefts = (numpy.arange(0, side, mesh) for side in undefined.shape)
-    return numpy.logical_and.reduceat(numpy.logical_and.reduceat(undefined, tops, axis=0), lefts, axis=1)
+# Values are counted in so many stretches at a time.
+STRETCHES = 2**16
 
 
-def _bands(image: numpy.ndarray, mesh: int) -> List[slice]:
-    return [slice(top, top + mesh) for top in range(0, len(image), mesh)]
+def number_of(image: numpy.ndarray, blank: Optional[int], mesh: int) -> Optional[int]:
+    """The lower median of an image's defined pixels where some cell of the mesh has none; else None."""
+    return lower_median(image, blank) if _has_empty_cell(image, blank, mesh) else None
 
 
-def among(image: numpy.ndarray, blank: Optional[int], mesh: int) -> Optional[numpy.ndarray]:
-    """Which cells of an image have no defined pixel; None where none is so."""
-    if not mesh or (blank is None and numpy.ma.getmask(image) is numpy.ma.nomask):
-        return None
-    rows = [
-        _undefined_cells(numpy.ma.getmaskarray(kernel.masked(image[it], blank)), mesh) for it in _bands(image, mesh)
-    ]
-    grid = numpy.concatenate(rows)
-    return grid if grid.any() else None
+def _has_empty_cell(image: numpy.ndarray, blank: Optional[int], mesh: int) -> bool:
+    if mesh < 1 or (blank is None and numpy.ma.getmask(image) is numpy.ma.nomask):
+        return False
+    lefts, step = numpy.arange(0, image.shape[1], mesh), mesh * max(1, AT_ONCE // mesh)
+    for top in range(0, len(image), step):
+        undefined = undefined_of(image[top : top + step], blank)
+        if undefined is not None:
+            rows = numpy.logical_and.reduceat(undefined, numpy.arange(0, len(undefined), mesh), axis=0)
+            if numpy.logical_and.reduceat(rows, lefts, axis=1).any():
+                return True
+    return False
 
 
-def without_room(shape: Tuple[int, ...], empty: numpy.ndarray, mesh: int) -> bool:
-    """Some cell without a defined pixel may have none either whose neighbours are all undefined: cells of one or two
-    pixels, or cells of one at the image's end.
+def lower_median(image: numpy.ndarray, blank: Optional[int]) -> int:
+    """The lower median of an image's defined pixels, or 0 of none. Some rows at a time are looked at, as often as it
+    takes until the stretch of values in which it lies has one alone.
     """
-    height, width = shape
-    return bool(mesh < 3 or height % mesh == 1 and empty[-1].any() or width % mesh == 1 and empty[:, -1].any())
-
-
-def room_for(shape: Tuple[int, ...], mesh: int) -> Tuple[int, ...]:
-    """The sides of an image in which each cell has such a pixel: two lines of undefined pixels more belong to a last
-    cell of one.
-    """
-    return tuple(side + 2 if side % mesh == 1 else side for side in shape)
-
-
-def median(image: numpy.ndarray, blank: Optional[int], mesh: int) -> int:
-    """The lower median of an image's defined pixels."""
-    return lower_median(numpy.concatenate([kernel.masked(image[it], blank).compressed() for it in _bands(image, mesh)]))
-
-
-@dataclasses.dataclass(frozen=True)
-class Filling:
-    """What fills the cells of a window that have no defined pixel: one with this value, in cells of this mesh."""
-
-    value: int
-    mesh: int
-
-    def into(self, window: numpy.ma.MaskedArray) -> numpy.ma.MaskedArray:
-        """A window with these pixels; the same one where it wants none."""
-        mesh, undefined = self.mesh, numpy.ma.getmaskarray(window)
-        empty = _undefined_cells(undefined, mesh)
-        if not empty.any():
-            return window
-        from scipy import ndimage
-
-        lone, filled = ndimage.binary_erosion(undefined, numpy.ones((3, 3)), border_value=1), window.copy()
-        for down, across in numpy.argwhere(empty):
-            free = numpy.argwhere(lone[down * mesh : (down + 1) * mesh, across * mesh : (across + 1) * mesh])
-            y, x = free[len(free) // 2]
-            filled[y + down * mesh, x + across * mesh] = self.value
-        return filled
-
-
-def left_out(catalogue: Rows, segments: numpy.ndarray, window: numpy.ma.MaskedArray) -> Rows:
-    """The sources whose first pixels are defined in a window as it was; the others are taken out of the map."""
-    rows, columns = firsts(catalogue)
-    false = numpy.ma.getmaskarray(window)[rows, columns]
-    if not false.any():
-        return catalogue
-    kept, _ = numbered([catalogue[~false]])
-    numbers = numpy.zeros(len(catalogue) + 1, dtype=segments.dtype)
-    numbers[1:][~false] = kept["NUMBER"]
-    segments[...] = numbers[segments]
-    return kept
+    low, high = value_range(image, blank)
+    rank = None
+    while low < high:
+        width, counts = -(-(high + 1 - low) // STRETCHES), numpy.zeros(STRETCHES, dtype="i8")
+        for values, undefined in parts(image, blank):
+            defined = values.ravel() if undefined is None else values[~undefined]
+            places = (defined.astype("i8") - low) // width
+            counts += numpy.bincount(places[(places >= 0) & (places < STRETCHES)], minlength=STRETCHES)
+        below = numpy.cumsum(counts)
+        rank = (int(below[-1]) - 1) // 2 if rank is None else rank
+        stretch = int(numpy.searchsorted(below, rank, side="right"))
+        rank -= int(below[stretch - 1]) if stretch else 0
+        low, high = low + stretch * width, min(high, low + (stretch + 1) * width - 1)
+    return low

@@ -21,14 +21,13 @@ All other values lie from -2^36 to 2^36. For an image of floating-point numbers 
 
 `catalogue` and `segments` are those of the command `maxdetect detect --threshold 2 --contrast 300`.
 """
+import itertools
 import math
-import operator
 import os
 import pathlib
 import re
 import shutil
 import subprocess
-import sys
 import tempfile
 from typing import TYPE_CHECKING, BinaryIO, Optional, Tuple, Union
 
@@ -38,13 +37,15 @@ from astropy.io import fits
 from ._columns import DESCRIPTIONS
 from ._docs import described
 from ._errors import Mistake
+from ._maps import bands
 from ._rows import Rows
 from ._stored import meaning, raw, sums
+from ._wholenumbers import LEAST, fits_of, fits_of_stored, undefined_of, whole_number
 
 if TYPE_CHECKING:
     from astropy.table import Table
 
-__all__ = ["NoProgram", "Refusal", "detect", "filter", "find_program", "load", "measure", "read", "tree"]
+__all__ = ["LEAST", "NoProgram", "Refusal", "detect", "filter", "find_program", "load", "measure", "read", "tree"]
 
 # Asks the C library (glibc from 2.35 on) for large pages, since arrays of a word a pixel come from the system page by
 # page: for those of 4 MiB and more, which go back to it when they are freed, and for one heap, whatever the threads.
@@ -52,12 +53,6 @@ LARGE_PAGES = (
     "glibc.malloc.hugetlb=1:glibc.malloc.arena_max=1"
     ":glibc.malloc.mmap_threshold=4194304:glibc.malloc.trim_threshold=4294967296"
 )
-
-# So many rows of an image are handed over at a time.
-AT_ONCE = 256
-
-# Stands for an undefined pixel among 32-bit numbers.
-LEAST = -(2**31)
 
 Path = Union[str, os.PathLike]
 
@@ -73,13 +68,13 @@ FAULTS = {
     8: "the input ends within an HDU before the chosen one",
     10: "the HDU is no image",
     11: "the image has no pixels, or more than two axes",
-    12: "a side above 65,535 pixels, or more than 16,777,216 pixels",
+    12: "a side above 65,535 pixels, or more than 16,777,216 pixels (maxwide: 2,147,483,647)",
     13: "the image's BITPIX isn't read",
     14: "BSCALE isn't 1",
     15: "BZERO isn't a whole number within 2^32",
     16: "BLANK isn't a whole number",
     17: "the input ends within the image",
-    18: "a value of 64 bits lies outside -2^36 to 2^36",
+    18: "a value lies outside -2^36 to 2^36, or -2^29 to 2^29 in more than 16,777,216 pixels",
     19: "the two images differ in width or height",
 }
 
@@ -133,16 +128,18 @@ class NoProgram(Mistake, FileNotFoundError):
     """The program isn't where it was looked for, or can't be run."""
 
 
-def find_program(program: Optional[Path] = None) -> str:
-    """The path of the program `maxdetect`.
+def find_program(program: Optional[Path] = None, name: str = "maxdetect") -> str:
+    """The path of a program of the project.
 
-    It is `program`, or where the environment's MAXDETECT, the package, the PATH or the repository has it; the
-    repository's own is proved and built first where it isn't there yet.
+    It is `program`, or where the environment (MAXDETECT for `maxdetect`), the package, the PATH or the repository has
+    it; the repository's own is proved and built first where it isn't there yet.
 
     Parameters
     ----------
     program : str or os.PathLike, optional
         The path that goes before all others.
+    name : {"maxdetect", "maxwide", "maxsurvey"}, default: "maxdetect"
+        Which program.
 
     Returns
     -------
@@ -154,27 +151,28 @@ def find_program(program: Optional[Path] = None) -> str:
     NoProgram
         Where no program is found, or it can't be built.
     """
-    named = program or os.environ.get("MAXDETECT")
+    variable = name.upper()
+    named = program or os.environ.get(variable)
     if named:
         return os.fspath(named)
     package = pathlib.Path(__file__).resolve().parent
-    found = shutil.which(package / "bin" / "maxdetect") or shutil.which("maxdetect")
+    found = shutil.which(package / "bin" / name) or shutil.which(name)
     if found:
         return os.fspath(found)
     top = package.parent.parent
     build = top / "scripts" / "build"
     if not build.exists():
-        raise NoProgram("maxdetect isn't on the PATH; name it by program= or in the environment's MAXDETECT")
-    if _run_build(build) != 0:
-        raise NoProgram(f"{build} didn't make the program; name one by program= or in the environment's MAXDETECT")
-    return os.fspath(top / "crates" / "maxdetect" / "out" / "maxdetect")
+        raise NoProgram(f"{name} isn't on the PATH; name it by program= or in the environment's {variable}")
+    if _run_build(build, name) != 0:
+        raise NoProgram(f"{build} didn't make {name}; name one by program= or in the environment's {variable}")
+    return os.fspath(top / "crates" / name / "out" / name)
 
 
-def _run_build(build: Path) -> int:
+def _run_build(build: Path, name: str) -> int:
     """Runs scripts/build, which tells on standard error that it proves and builds, and how long that takes; its status.
     It ends with the caller, and the crates that it is proving end with it.
     """
-    with subprocess.Popen([build], stdin=subprocess.DEVNULL, stdout=subprocess.DEVNULL) as building:
+    with subprocess.Popen([build, name], stdin=subprocess.DEVNULL, stdout=subprocess.DEVNULL) as building:
         try:
             return building.wait()
         except BaseException:
@@ -182,19 +180,11 @@ def _run_build(build: Path) -> int:
             raise
 
 
-def _whole(name, value):
-    """A value as a word, where it is a whole number."""
-    try:
-        return str(operator.index(value))
-    except TypeError:
-        raise TypeError(f"{name} is a whole number, not {value!r}") from None
-
-
-def _words(command, options):
+def words_of(command, options):
     """The words of a command: its name, then each option and its value."""
     words = [command]
     for name, value in options.items():
-        words += ["--" + name.replace("_", "-"), value if name == "rule" else _whole(name, value)]
+        words += ["--" + name.replace("_", "-"), value if name == "rule" else str(whole_number(name, value))]
     return words
 
 
@@ -210,10 +200,10 @@ def _refusal(words, status, note):
         text = FAULTS.get(int(refused[1]), "the input is refused") + refused[3]
         return Refusal(status, int(refused[1]), refused[2], text)
     if status < 0:
-        return Refusal(None, None, "killed", f"signal {-status} ended maxdetect")
+        return Refusal(None, None, "killed", f"signal {-status} ended the program")
     if status in (3, 4, 5):
         return Refusal(status, None, note, "nothing was made")
-    return Refusal(status, None, "failed", f"maxdetect ended with status {status}: {' '.join(note.split())}")
+    return Refusal(status, None, "failed", f"the program ended with status {status}: {' '.join(note.split())}")
 
 
 def _environment():
@@ -226,14 +216,13 @@ def _in_memory():
     return os.fdopen(os.memfd_create("maxdetect"), "w+b") if hasattr(os, "memfd_create") else tempfile.TemporaryFile()
 
 
-def _run(program, words, *images):
-    """What the program writes for these words and the pieces of these images, as a file that is open for reading."""
-    path = find_program(program)
+def run(words, pieces, program=None, name="maxdetect"):
+    """What a program writes for these words and the pieces of its input, as a file that is open for reading."""
     with _in_memory() as file, _in_memory() as output:
-        for pieces in images:
-            for piece in pieces:
-                file.write(piece)
+        for piece in pieces:
+            file.write(piece)
         file.seek(0)
+        path = find_program(program, name)
         try:
             result = subprocess.run(
                 [path, *words], stdin=file, stdout=output, stderr=subprocess.PIPE, env=_environment(), check=False
@@ -244,87 +233,6 @@ def _run(program, words, *images):
             raise _refusal(words, result.returncode, result.stderr.decode("utf-8", "replace").strip())
         output.seek(0)
         return os.fdopen(os.dup(output.fileno()), "rb")
-
-
-def _forms(low):
-    """For each size of stored numbers: how many bits they have, the least of them, and the BZERO that puts the value
-    `low` right above it.
-    """
-    for bits in (8, 16, 32):
-        least = 0 if bits == 8 else -(2 ** (bits - 1))
-        yield bits, least, min(max(low - least - 1, -(2**32)), 2**32)
-    yield 64, -(2**63), 0
-
-
-def _checked(image, blank):
-    """The values of an image, and which of its pixels are undefined (None: none is)."""
-    values, mask = numpy.ma.getdata(image), numpy.ma.getmask(image)
-    if values.ndim != 2:
-        raise ValueError(f"an image has two dimensions, not {values.ndim}")
-    if values.dtype.kind not in "iu":
-        raise TypeError(f"an image has whole numbers, not {values.dtype}; maxdetect.scaling makes some of others")
-    undefined = None if mask is numpy.ma.nomask or not mask.any() else numpy.ma.getmaskarray(image)
-    if blank is not None:
-        at_blank = values == int(_whole("blank", blank))
-        undefined = at_blank if undefined is None else undefined | at_blank
-    return values, undefined
-
-
-def masked(image: numpy.ndarray, blank: Optional[int] = None) -> numpy.ma.MaskedArray:
-    """An image of whole numbers as a masked array, the pixels with the value `blank` masked too."""
-    values, undefined = _checked(image, blank)
-    return numpy.ma.MaskedArray(values, mask=numpy.ma.nomask if undefined is None else undefined)
-
-
-def _range(values, undefined):
-    """The least and the greatest defined value, or 0 and 0."""
-    if undefined is not None:
-        values = values[~undefined]
-    low, high = (int(values.min()), int(values.max())) if values.size else (0, 0)
-    if low < -(2**36) or high > 2**36:
-        raise ValueError(f"the values from {low} to {high} lie too far from 0")
-    return low, high
-
-
-def _file(image, blank, extension=False):
-    """An image as pieces of a FITS file, or of an extension behind one: header, pixels, padding.
-
-    The stored numbers are the values less BZERO, in as few bytes as their range needs; the least stored number is
-    BLANK. In 64 bits BZERO is 0.
-    """
-    values, undefined = _checked(image, blank)
-    low, high = _range(values, undefined)
-    bits, least, zero = next(
-        form
-        for form in _forms(low)
-        if form[0] == 64 or form[1] < low - form[2] and high - form[2] < form[1] + 2 ** form[0]
-    )
-    # Values and BZERO fit 64 bits; an undefined pixel may have any value.
-    stored = (values.astype("i8") - zero if zero else values).astype("u1" if bits == 8 else f">i{bits // 8}", order="C")
-    if undefined is not None:
-        stored[undefined] = least
-    height, width = values.shape
-    cards = [
-        ("XTENSION", "IMAGE") if extension else ("SIMPLE", True),
-        ("BITPIX", bits),
-        ("NAXIS", 2),
-        ("NAXIS1", width),
-        ("NAXIS2", height),
-    ]
-    cards += [("PCOUNT", 0), ("GCOUNT", 1)] if extension else []
-    cards += [("BSCALE", 1), ("BZERO", zero), ("BLANK", least)]
-    return fits.Header(cards).tostring().encode("ascii"), stored.reshape(-1).view("u1"), bytes(-stored.nbytes % 2880)
-
-
-def _stored_file(stored):
-    """The same of 32-bit numbers as they are to be stored, the least of them for an undefined pixel."""
-    height, width = stored.shape
-    cards = [("SIMPLE", True), ("BITPIX", 32), ("NAXIS", 2), ("NAXIS1", width), ("NAXIS2", height), ("BLANK", LEAST)]
-    yield fits.Header(cards).tostring().encode("ascii")
-    # Some rows at a time, since a copy of all of them would stand beside the program.
-    for top in range(0, height, AT_ONCE):
-        yield stored[top : top + AT_ONCE].astype(">i4", order="C").reshape(-1).view("u1")
-    yield bytes(-4 * height * width % 2880)
 
 
 def _native(array):
@@ -372,24 +280,30 @@ def _read_rows(file):
         return Rows({name: _native(rows[name]) for name in names}), _native(hdus["SEGMENT"].data)
 
 
-def _written_rows(file, hdus):
-    """The same of what the program wrote just now: read as it stands, since astropy loads its tables for one."""
-    found = {header.get("EXTNAME"): (header, place) for header, place in hdus}
-    header, place = found["SOURCES"]
-    fields = [
-        (header[f"TTYPE{number}"], {"J": ">i4", "K": ">i8"}[header[f"TFORM{number}"]])
-        for number in range(1, header["TFIELDS"] + 1)
-    ]
-    rows = _numbers_at(file, place, numpy.dtype(fields), header["NAXIS2"])
-    header, place = found["SEGMENT"]
-    segments = _numbers_at(file, place, numpy.dtype(">i4"), header["NAXIS1"] * header["NAXIS2"])
-    if sys.byteorder == "little":
-        segments = segments.byteswap(inplace=True)
-    segments = segments.view("i4").reshape(header["NAXIS2"], header["NAXIS1"])
-    return Rows({name: _native(rows[name]) for name, _ in fields}), segments
+def sources_of(output: BinaryIO, segments: numpy.ndarray) -> Rows:
+    """The rows of what a program wrote just now, as plain arrays; the map goes into an array of its shape."""
+
+    # Read as it stands, since astropy loads its tables for one.
+    def reading(hdus):
+        header, place = hdus["SOURCES"]
+        fields = [
+            (header[f"TTYPE{number}"], {"J": ">i4", "K": ">i8"}[header[f"TFORM{number}"]])
+            for number in range(1, header["TFIELDS"] + 1)
+        ]
+        rows = numbers_at(output, place, numpy.dtype(fields), header["NAXIS2"])
+        header, place = hdus["SEGMENT"]
+        if segments.shape != (header["NAXIS2"], header["NAXIS1"]):
+            raise ValueError("a map of another image")
+        for band in bands(segments):
+            part = segments[band]
+            part[...] = numbers_at(output, place, numpy.dtype(">i4"), part.size).reshape(part.shape)
+            place += 4 * part.size
+        return Rows({name: _native(rows[name]) for name, _ in fields})
+
+    return answer(output, reading)
 
 
-def _numbers_at(file, place, dtype, count):
+def numbers_at(file: BinaryIO, place: int, dtype: numpy.dtype, count: int) -> numpy.ndarray:
     """So many numbers of a kind at a place of a file. Raises ValueError where it has fewer."""
     file.seek(place)
     found = numpy.fromfile(file, dtype, count)
@@ -425,22 +339,16 @@ def read(file: Union[Path, BinaryIO]) -> Tuple["Table", numpy.ndarray]:
     return catalogue_of(rows), segments
 
 
-def _written(file, hdus):
-    """The catalogue and the segmentation map that the program wrote just now."""
-    rows, segments = _written_rows(file, hdus)
-    return catalogue_of(rows), segments
-
-
-def _answer(output, shape, reading=_written):
-    """What the program wrote just now of an image of this shape, read so: its last part is an image too."""
+def answer(output, reading):
+    """What a program wrote just now, as it is read from its HDUs: of each, by its EXTNAME, the header and where its
+    data begin. Raises ValueError itself where it is no answer to what was asked.
+    """
     with output:
         try:
-            found = reading(output, _hdus(output))
+            return reading({header.get("EXTNAME"): (header, place) for header, place in _hdus(output)})
         except (OSError, EOFError, KeyError, ValueError, TypeError, IndexError, AttributeError, fits.VerifyError):
-            raise Refusal(None, None, "truncated", "what maxdetect wrote is cut short, or no FITS file") from None
-    if numpy.shape(found[-1]) != tuple(shape):
-        raise Refusal(None, None, "truncated", "what maxdetect wrote is of another image")
-    return found
+            text = "what the program wrote is cut short, no FITS file, or of another image"
+            raise Refusal(None, None, "truncated", text) from None
 
 
 def _hdus(file):
@@ -461,10 +369,18 @@ def _hdus(file):
     return found
 
 
-def _read_plane(file, hdus):
-    """The values of what `maxdetect filter` wrote."""
-    with fits.open(file, memmap=False, do_not_scale_image_data=True) as hdus:
-        return (_native(hdus[0].data),)
+def _plane(file, hdus, shape):
+    """The values of what `maxdetect filter` wrote of an image of this shape."""
+    header, place = hdus[None]
+    if (header["NAXIS2"], header["NAXIS1"]) != shape:
+        raise ValueError("a plane of another image")
+    return _native(numbers_at(file, place, numpy.dtype(">i8"), math.prod(shape)).reshape(shape))
+
+
+def _detected(words, pieces, shape, program):
+    """The rows and the map that the program finds."""
+    output, segments = run(words, pieces, program), numpy.empty(shape, "i4")
+    return sources_of(output, segments), segments
 
 
 @described
@@ -540,7 +456,8 @@ def detect(
     """
     options = dict(threshold=threshold, min_area=min_area, min_flux=min_flux, contrast=contrast)
     options.update(mesh=mesh, flat=int(flat), connect=connect, strips=strips, workers=workers)
-    return _answer(_run(program, _words("detect", options), _file(image, blank)), numpy.shape(image))
+    rows, segments = _detected(words_of("detect", options), fits_of(image, blank), numpy.shape(image), program)
+    return catalogue_of(rows), segments
 
 
 def detect_stored(
@@ -549,8 +466,8 @@ def detect_stored(
     """The same as `detect` of an array of 32-bit numbers in which LEAST stands for an undefined pixel, without a look
     at its range, as plain arrays.
     """
-    output = _run(program, _words("detect", {"threshold": threshold, **options}), _stored_file(stored))
-    return _answer(output, stored.shape, _written_rows)
+    words = words_of("detect", {"threshold": threshold, **options})
+    return _detected(words, fits_of_stored(stored), stored.shape, program)
 
 
 @described
@@ -629,8 +546,9 @@ def measure(
     """
     options = dict(values=1, threshold=threshold, min_area=min_area, min_flux=min_flux, contrast=contrast)
     options.update(mesh=mesh, flat=int(flat), connect=connect, strips=strips, workers=workers)
-    bands = _file(image, blank), _file(values, blank, extension=True)
-    return _answer(_run(program, _words("measure", options), *bands), numpy.shape(image))
+    pieces = itertools.chain(fits_of(image, blank), fits_of(values, blank, extension=True))
+    rows, segments = _detected(words_of("measure", options), pieces, numpy.shape(image), program)
+    return catalogue_of(rows), segments
 
 
 @described
@@ -702,11 +620,11 @@ def filter(
     """
     options = dict(rule=rule, min_area=min_area, max_area=max_area, min_flux=min_flux, min_fill=min_fill)
     options.update(mesh=mesh, flat=int(flat), connect=connect, strips=strips, workers=workers)
-    output = _run(program, _words("filter", options), _file(image, blank))
-    (values,) = _answer(output, numpy.shape(image), _read_plane)
+    output = run(words_of("filter", options), fits_of(image, blank), program)
+    values = answer(output, lambda hdus: _plane(output, hdus, numpy.shape(image)))
     if blank is None and not isinstance(image, numpy.ma.MaskedArray):
         return values
-    undefined = _checked(image, blank)[1]
+    undefined = undefined_of(image, blank)
     return numpy.ma.MaskedArray(values, mask=numpy.zeros(values.shape, dtype=bool) if undefined is None else undefined)
 
 
@@ -764,7 +682,7 @@ def tree(
     1 2 1 0 1
     """
     options = dict(mesh=mesh, flat=int(flat), connect=connect, strips=strips, workers=workers)
-    with _run(program, _words("tree", options), _file(image, blank)) as output:
+    with run(words_of("tree", options), fits_of(image, blank), program) as output:
         lines = output.read().replace(b" - ", b" -1 ")
     numbers = numpy.fromstring(lines, dtype="i8", sep=" ").reshape(-1, 5) if lines else numpy.zeros((0, 5), dtype="i8")
     return Rows(dict(zip(("NUMBER", "LEVEL", "REP", "PARENT", "AREA"), numbers.T))).table()

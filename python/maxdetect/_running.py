@@ -143,9 +143,7 @@ def _ready(given: argparse.Namespace) -> List[Union[Task, Exception]]:
     if good:
         kernel.find_program()
         if given.survey:
-            from . import _adding as adding
-
-            adding.find_survey_program()
+            kernel.find_program(name="maxsurvey")
     return every
 
 

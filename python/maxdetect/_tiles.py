@@ -1,19 +1,17 @@
-"""Sources of an array of any size: its windows looked at by the program, and their sources as one catalogue."""
+"""Sources of an array of any size: whole by one process of `maxwide`, or by its tiles, which it joins.
+
+What `maxwide join` writes of tiles is by proof what `maxwide detect` writes of the whole image. Here is decided which
+windows the tiles are made from; a tile tells by its open boxes where its window was too small.
+"""
 import concurrent.futures
-import contextlib
-import os
-from typing import TYPE_CHECKING, Any, Callable, Dict, Iterator, List, Optional, Tuple
+from typing import TYPE_CHECKING, BinaryIO, Callable, Iterator, List, NamedTuple, Optional, Sequence, Tuple
 
 import numpy
 
-from . import _emptycells as emptycells, _kernel as kernel
-from ._background import Above
+from . import _emptycells as emptycells, _kernel as kernel, _wholenumbers as wholenumbers
 from ._docs import described
-from ._emptycells import Filling
 from ._executors import each
-from ._holding import Look, Part, complete, cut_sources, look_over
-from ._joining import Piece, gathered, with_cut
-from ._windows import Box, Plan, side_of_core
+from ._windows import Box
 
 if TYPE_CHECKING:
     from astropy.table import Table
@@ -21,77 +19,111 @@ if TYPE_CHECKING:
 __all__ = ["detect_tiles"]
 
 # The side of a tile's core where nothing else is asked, and how far a window reaches beyond it without a mesh.
-TILE = 3840
-MARGIN = 128
+TILE, MARGIN = 3840, 128
+# An image is looked at whole where the windows of tiles that are made again have so many times the pixels of the first.
+MOST_AGAIN = 2
 
 
-class _Windows:
-    """Looks at windows of an array by the program, where `image` is a part of the whole. What lies beyond it is
-    undefined.
-    """
+class _Tile(NamedTuple):
+    """What the program made of a window: the boxes that it may not know, and its file."""
 
-    def __init__(self, image: numpy.ndarray, part: Box, threshold: int, options: dict, filling: Optional[Filling]):
-        self.image, self.part, self.threshold, self.options, self.filling = image, part, threshold, options, filling
-
-    def __call__(self, box: Box) -> Look:
-        at = box.within(self.part)
-        window = kernel.masked(self.image[at.rows, at.columns], self.options.get("blank"))
-        if window.shape != box.shape:
-            window = _extended(window, box.shape)
-        options = {name: value for name, value in self.options.items() if name != "blank"}
-        seen = window if self.filling is None else self.filling.into(window)
-        catalogue, segments = kernel.detect(seen, self.threshold, **options)
-        if seen is not window:
-            catalogue = emptycells.left_out(catalogue, segments, window)
-        undefined = None if numpy.ma.getmask(seen) is numpy.ma.nomask else numpy.ma.getmaskarray(seen)
-        above = Above(numpy.ma.getdata(seen), undefined, self.threshold, options["mesh"], options["flat"])
-        return Look(catalogue, segments, above)
+    open: List[Box]
+    file: bytes
 
 
-def _extended(window: numpy.ma.MaskedArray, shape: Tuple[int, ...]) -> numpy.ma.MaskedArray:
-    """A window with undefined pixels behind its last row and column."""
-    whole: numpy.ma.MaskedArray = numpy.ma.MaskedArray(numpy.zeros(shape, dtype=window.dtype), mask=True)
-    whole[: window.shape[0], : window.shape[1]] = window
-    return whole
+def _answer(output: BinaryIO) -> _Tile:
+    def reading(hdus):
+        header, place = hdus["TILE"]
+        cells = kernel.numbers_at(output, place, numpy.dtype(">i4"), 4 * header["NAXIS2"]).reshape(-1, 4)
+        boxes = [Box(top - 1, bottom, left - 1, right) for left, right, top, bottom in cells.tolist()]
+        output.seek(0)
+        return _Tile(boxes[3:], output.read())
+
+    return kernel.answer(output, reading)
 
 
-def plan_of(
-    image: numpy.ndarray, tile: int, mesh: int, flat: bool, connect: int, blank: Optional[int]
-) -> Tuple[Plan, Optional[Filling]]:
-    """How an array is cut, and what fills its cells without a defined pixel, where it has some."""
-    margin, whole, filling = 2 * mesh or MARGIN, Box(0, image.shape[0], 0, image.shape[1]), None
-    side, shape, empty = side_of_core(tile, margin, mesh), image.shape, emptycells.among(image, blank, mesh)
-    if empty is not None and whole.fits() and emptycells.without_room(shape, empty, mesh):
-        side = max(shape)
-    elif empty is not None:
-        if mesh < 3:
-            raise ValueError(f"cells of {mesh} pixels have no defined one, in an image that no window holds")
-        filling = Filling(emptycells.median(image, blank, mesh), mesh)
-        shape = emptycells.room_for(shape, mesh)
-    return Plan(shape, whole, side, margin, mesh, flat, connect), filling
+class _Work:
+    """The work on a tile of an image: the program's, from the window's pixels alone."""
 
+    def __init__(self, whole: Box, words: Sequence[str], blank: Optional[int], program: Optional[kernel.Path]):
+        self.whole, self.words, self.blank, self.program = whole, words, blank, program
 
-class _Tile:
-    """The work on a tile of an array: of its core, its window, and the window's pixels."""
-
-    def __init__(self, plan: Plan, threshold: int, options: dict, filling: Optional[Filling]):
-        self.plan, self.threshold, self.options, self.filling = plan, threshold, options, filling
-
-    def __call__(self, item: Tuple[Box, Box, numpy.ndarray]) -> Tuple[Box, Piece, List[Part]]:
+    def __call__(self, item: Tuple[Box, Box, numpy.ndarray]) -> _Tile:
         core, window, image = item
-        look_at = _Windows(image, window, self.threshold, self.options, self.filling)
-        return core, *look_over(look_at, self.plan, core, self.plan.margin)
+        words = ["tile", "--whole", *_sides(self.whole), "--window", *_place(window), "--core", *_place(core)]
+        pieces = wholenumbers.fits_of(image, self.blank, pixels=self.whole.pixels)
+        return _answer(kernel.run([*words, *self.words], pieces, self.program, "maxwide"))
 
 
-def _pieces(image: numpy.ndarray, plan: Plan, work: _Tile, executor: concurrent.futures.Executor) -> Iterator[Piece]:
-    """A piece for each tile of an array, and what is cut with the last. Tiles get their windows alone; what these don't
-    hold is looked at here.
+def _work(
+    image: numpy.ndarray, words: List[str], mesh: int, blank: Optional[int], program: Optional[kernel.Path]
+) -> Optional[_Work]:
+    """The work on an image's tiles, where the background is smooth in cells with the side `mesh`. None where the image
+    has no tiles: without a pixel, larger than the program takes, or with too great a number for its empty cells.
     """
-    windows = ((core, plan.around(core, plan.margin)) for core in plan.cores())
-    items = ((core, window, image[window.rows, window.columns]) for core, window in windows)
-    everything = _Windows(image, plan.part, work.threshold, work.options, work.filling)
-    seen = (complete(everything, plan, *found) for found in each(executor, work, items))
-    return with_cut(seen, plan, lambda squares: (cut_sources(everything, plan, *square) for square in squares))
+    if not image.size or wholenumbers.is_too_large(image):
+        return None
+    number = emptycells.number_of(image, blank, mesh)
+    if number is not None and abs(number) > wholenumbers.WIDE_VALUE:
+        return None
+    place = [] if number is None else ["--empty-cells", str(number)]
+    return _Work(Box(0, image.shape[0], 0, image.shape[1]), [*place, *words], blank, program)
+
+
+def _sides(box: Box) -> List[str]:
+    height, width = box.shape
+    return [str(width), str(height)]
+
+
+def _place(box: Box) -> List[str]:
+    return [str(box.left), str(box.top), *_sides(box)]
+
+
+def _window(box: Box, margin: int, step: int, whole: Box) -> Box:
+    """The window with a margin around a box, as far as the image goes, of whole cells with the side `step`."""
+    wide = box.wider(margin, whole.shape)
+    top, left = (begin // step * step for begin in (wide.top, wide.left))
+    bottom, right = (-(-end // step) * step for end in (wide.bottom, wide.right))
+    return Box(top, min(bottom, whole.bottom), left, min(right, whole.right))
+
+
+def _tiles(
+    image: numpy.ndarray,
+    side: int,
+    mesh: int,
+    work: _Work,
+    executor: concurrent.futures.Executor,
+    progress: Callable[[int], None],
+) -> Tuple[List[bytes], int]:
+    """The files of an image's tiles, of which none has an open box. Those that have some are made again in a window
+    that holds these, each time with twice the margin, if need be in the whole image. Where looking at this once would
+    be less work some tiles are left, and how many.
+    """
+    step, margin, most = max(mesh, 1), 2 * mesh if mesh > 0 else MARGIN, None
+    # The cores of what is to be made, and what their windows have to hold.
+    files, left = [], [(core, core) for core in work.whole.cut(max(side // step, 1) * step)]
+    while left:
+        windows = [_window(held, margin, step, work.whole) for _, held in left]
+        pixels = sum(window.pixels for window in windows)
+        most = most or MOST_AGAIN * pixels
+        if pixels > most:
+            break
+        items = ((core, it, image[it.rows, it.columns]) for (core, _), it in zip(left, windows))
+        again = []
+        for (core, held), made in zip(left, each(executor, work, items)):
+            if made.open:
+                again.append((core, held.hull(made.open)))
+            else:
+                files.append(made.file)
+                progress(1)
+        left, margin = again, 2 * margin
+    return files, len(left)
+
+
+def _handed_on(files: List[bytes]) -> Iterator[bytes]:
+    """Each of the files, which is let go then."""
+    while files:
+        yield files.pop()
 
 
 @described
@@ -114,24 +146,22 @@ def detect_tiles(
     progress: Callable[[int], None] = lambda count: None,
     program: Optional[kernel.Path] = None,
 ) -> Tuple["Table", numpy.ndarray]:
-    """What `detect` answers, for an image of any size: the catalogue and the map of the whole.
+    """What `detect` answers, for an image of up to 2^31 - 1 pixels: the catalogue and the map of the whole.
 
-    The image is cut into tiles with cores of `tile` by `tile` pixels, a multiple of the mesh, and margins of two cells,
-    or 128 pixels without a mesh. Columns, rows, centres and numbers are those of the whole.
-
-    Where a component of the threshold set is too large for any window that the program takes, its sources are cut by
-    the tiles; their numbers stand in the catalogue's `meta["CUT"]`. All others are exactly those of `detect`. An image
-    whose cells have one or two pixels, and some of them no defined one, is looked at as a whole.
+    Without an executor the program `maxwide` looks at the whole image. With one it looks there at tiles, each in a
+    window of its own, and joins them here. No source is cut: a tile with a component that its window may not hold is
+    made again in a larger one, or the whole image is looked at.
 
     Parameters
     ----------
     image : numpy.ndarray of int, shape (height, width)
-        The image, as that of `detect`; it may be a memory-mapped array, of which windows are read.
+        The image, as that of `detect`, with values from -2^29 to 2^29 where it has more than 2^24 pixels; it may be a
+        memory-mapped array, of which some rows at a time, or windows, are read.
     {threshold}
     tile : int, default: 3840
-        The side of a tile's core, in pixels.
+        The side of a tile's core, in pixels; it is made a multiple of the mesh.
     executor : concurrent.futures.Executor, optional
-        What the tiles run in, such as that of a Dask client; by default threads do.
+        What the tiles run in, such as that of a Dask client.
     {min_area}
     {min_flux}
     {contrast}
@@ -139,15 +169,16 @@ def detect_tiles(
     {flat}
     {connect}
     strips : int, default: 1
-        Into how many strips each tile is cut, which changes nothing but the time.
+        Into how many strips the image or each window is cut, which changes nothing but the time.
     workers : int, default: 1
-        How many threads work on a tile's strips, which changes nothing but the time.
+        How many threads work on the strips, which changes nothing but the time.
     {blank}
     segments : numpy.ndarray of int32, shape (height, width), optional
-        An array full of zeros, such as a memory-mapped one, that gets the map; by default one is made.
+        An array, such as a memory-mapped one, that gets the map; by default one is made.
     progress : callable, optional
-        Is called with 1 for each tile that is done.
-    {program}
+        Is called with the number of tiles that are done each time, 1 for an image without tiles.
+    program : str or os.PathLike, optional
+        The path of `maxwide`, by default that of `find_program`.
 
     Returns
     -------
@@ -159,25 +190,31 @@ def detect_tiles(
     Raises
     ------
     ValueError
-        Where the image hasn't two dimensions and a pixel, a tile can't hold its cells, or the program doesn't take an
-        image that is looked at as a whole.
+        Where the image hasn't two dimensions, values lie too far from 0, the map has another shape, or a tile has no
+        pixel.
     TypeError
         Where the image or an option hasn't whole numbers.
     Refusal
-        Where the program refuses a tile or an option.
+        Where the program refuses the image, a window of it or an option.
     NoProgram
         Where the program isn't found.
     """
-    if numpy.ndim(image) != 2 or 0 in numpy.shape(image):
-        raise ValueError(f"an image has two dimensions and a pixel, not the sides {numpy.shape(image)}")
-    plan, filling = plan_of(image, tile, mesh, bool(flat), connect, blank)
-    options: Dict[str, Any] = dict(min_area=min_area, min_flux=min_flux, contrast=contrast, mesh=mesh, flat=bool(flat))
-    options.update(connect=connect, strips=strips, workers=workers, blank=blank, program=program)
-    segments = numpy.zeros(image.shape, dtype="i4") if segments is None else segments
-    with contextlib.ExitStack() as stack:
-        pool = executor or stack.enter_context(concurrent.futures.ThreadPoolExecutor(os.cpu_count()))
-        pieces = _pieces(image, plan, _Tile(plan, threshold, options, filling), pool)
-        table, cut = gathered(pieces, segments, progress)
-    if cut.any():
-        table.meta["CUT"] = numpy.asarray(table["NUMBER"])[cut].tolist()
-    return kernel.catalogue_of(table), segments
+    image, side = wholenumbers.whole_numbers(image), wholenumbers.whole_number("tile", tile)
+    if segments is not None and segments.shape != image.shape:
+        raise ValueError(f"the map has the sides {segments.shape}, and the image {image.shape}")
+    if side < 1:
+        raise ValueError(f"a tile has a side of a pixel or more, not of {tile}")
+    options = dict(threshold=threshold, min_area=min_area, min_flux=min_flux, contrast=contrast)
+    options.update(mesh=mesh, flat=int(flat), connect=connect, strips=strips, workers=workers)
+    words, left = kernel.words_of("detect", options), 1
+    work = None if executor is None else _work(image, words, 0 if flat else mesh, blank, program)
+    if executor is not None and work is not None:
+        files, left = _tiles(image, side, mesh, work, executor, progress)
+    if left:
+        files = []
+        output = kernel.run(words, wholenumbers.fits_of(image, blank), program, "maxwide")
+        progress(left)
+    else:
+        output = kernel.run(["join"], _handed_on(files), program, "maxwide")
+    segments = numpy.empty(image.shape, dtype="i4") if segments is None else segments
+    return kernel.catalogue_of(kernel.sources_of(output, segments)), segments

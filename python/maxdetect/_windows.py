@@ -1,20 +1,15 @@
-"""Windows of an image: boxes of its pixels, how it is cut into tiles, and what of it a window shows for sure.
-
-An image is cut into tiles, and each is looked at in a window with a margin around it. The sure pixels of a window are
-those whose background is made of cells that lie whole in it. All pixels of a tile's core are sure.
-"""
+"""Windows of an image: boxes of its pixels, and how it is cut into tiles that are each looked at in a window."""
 import dataclasses
 import itertools
-from typing import List, Optional, Tuple
+from typing import Iterable, List, Optional, Tuple
 
 import numpy
 
 from ._rows import Rows
+from ._wholenumbers import MOST_PIXELS, MOST_SIDE
 
-__all__ = ["Box", "MOST_PIXELS", "MOST_SIDE", "Plan", "firsts", "in_box", "moved", "side_of_core"]
+__all__ = ["Box", "MOST_PIXELS", "Plan", "firsts", "in_box", "moved"]
 
-# What the program takes.
-MOST_PIXELS, MOST_SIDE = 2**24, 65535
 # Columns that move with a window, and by how much for a pixel.
 ACROSS = {"XMIN": 1, "XMAX": 1, "XFIRST": 1, "XCEN": 1000, "X": 1, "XWIN": 1, "XPEAK": 1}
 ALONG = {"YMIN": 1, "YMAX": 1, "YFIRST": 1, "YCEN": 1000, "Y": 1, "YWIN": 1, "YPEAK": 1}
@@ -64,24 +59,34 @@ class Box:
         bottom, right = max(top, min(self.bottom, outer.bottom)), max(left, min(self.right, outer.right))
         return Box(top - outer.top, bottom - outer.top, left - outer.left, right - outer.left)
 
+    def cut(self, side: int) -> List["Box"]:
+        """The squares with this side into which it is cut, row by row."""
+        corners = itertools.product(range(self.top, self.bottom, side), range(self.left, self.right, side))
+        return [Box(top, min(top + side, self.bottom), left, min(left + side, self.right)) for top, left in corners]
+
+    def hull(self, others: Iterable["Box"]) -> "Box":
+        """The least box that holds it and others."""
+        tops, bottoms, lefts, rights = zip(*(dataclasses.astuple(box) for box in (self, *others)))
+        return Box(min(tops), max(bottoms), min(lefts), max(rights))
+
+    def wider(self, margin: int, shape: Tuple[int, ...]) -> "Box":
+        """The box with a margin around it, as far as an image with these sides goes."""
+        top, left = max(0, self.top - margin), max(0, self.left - margin)
+        return Box(top, min(self.bottom + margin, shape[0]), left, min(self.right + margin, shape[1]))
+
 
 @dataclasses.dataclass(frozen=True)
 class Plan:
-    """How an image is cut: its shape, the part of it whose sources are wanted, the side of a tile's core, the margin,
-    the mesh of the program's background, and which pixels are neighbours. The sources' columns and rows are those of
-    the part. What is made of a component depends on the pixels up to `reach` columns and rows from it. Components that
-    no window holds are cut by squares with the side `square`, a multiple of a core's; 0 stands for that of a core.
+    """How an image is cut: its shape, the side of a tile's core, and its window's margin. What is made of a component
+    depends on the pixels up to `reach` columns and rows from it. Components that no window holds are cut by squares
+    with the side `square`, a multiple of a core's.
     """
 
     shape: Tuple[int, ...]
-    part: Box
     tile: int
     margin: int
-    mesh: int = 0
-    flat: bool = False
-    connect: int = 8
-    reach: int = 1
-    square: int = 0
+    reach: int
+    square: int
 
     @property
     def whole(self) -> Box:
@@ -90,37 +95,24 @@ class Plan:
 
     def cores(self) -> List[Box]:
         """The cores of the tiles, row by row."""
-        part = self.part
-        corners = itertools.product(range(part.top, part.bottom, self.tile), range(part.left, part.right, self.tile))
-        return [
-            Box(top, min(top + self.tile, part.bottom), left, min(left + self.tile, part.right))
-            for top, left in corners
-        ]
+        return self.whole.cut(self.tile)
 
     def square_of(self, core: Box) -> Box:
         """The square of a core."""
-        part, side = self.part, self.square or self.tile
-        top, left = (low - (low - first) % side for low, first in ((core.top, part.top), (core.left, part.left)))
-        return Box(top, min(top + side, part.bottom), left, min(left + side, part.right))
+        top, left = (low - low % self.square for low in (core.top, core.left))
+        return Box(top, min(top + self.square, self.shape[0]), left, min(left + self.square, self.shape[1]))
 
     def around(self, box: Box, margin: int) -> Box:
-        """The window with a margin around a box, as far as the image goes, of whole cells."""
-        step, (height, width) = self.mesh or 1, self.shape
-        top, left = (max(0, low - margin) // step * step for low in (box.top, box.left))
-        bottom, right = (-(-(high + margin) // step) * step for high in (box.bottom, box.right))
-        return Box(top, min(bottom, height), left, min(right, width))
+        """The window with a margin around a box."""
+        return box.wider(margin, self.shape)
 
     def least_window(self, box: Box) -> Box:
-        """The least window in which a box's pixels are sure with their neighbours."""
-        before = after = self.reach
-        # A smooth background is sure from a cell and a half within the window's edge.
-        if self.mesh and not self.flat:
-            before, after = 3 * self.mesh // 2 + 1, (3 * self.mesh + 1) // 2 + 1
-        return self.around(Box(box.top - before, box.bottom + after, box.left - before, box.right + after), 0)
+        """The least window that shows all on which depends what is made of a component with this box."""
+        return self.around(box, self.reach)
 
     def window_holding(self, box: Box, margin: int) -> Optional[Box]:
-        """The window around a box with this margin, or with the half of it and so on down to the least one in which
-        its pixels are sure with their neighbours, that the program takes; None where it takes none of them.
+        """The window around a box with this margin, or with the half of it and so on down to the least one, that the
+        program takes; None where it takes none of them.
         """
         least = self.least_window(box)
         windows = [self.around(box, margin >> times) for times in range(margin.bit_length())]
@@ -133,42 +125,13 @@ class Plan:
             margin *= 2
         return self.around(box, margin)
 
-    def _sure(self, low: int, high: int, side: int) -> Tuple[int, int]:
-        """Of the places along a side, those whose background a window from `low` up to `high` shows."""
-        mesh = self.mesh
-        if not mesh:
-            return low, high
-        first, last = low // mesh, high // mesh
-        if self.flat:
-            return low, side if high == side else last * mesh
-        # The cells between whose centres a place lies, and one more on each side, are in the window.
-        return 0 if low == 0 else -((1 - mesh * (2 * first + 3)) // 2), side if high == side else -(
-            (1 - mesh * (2 * last - 3)) // 2
-        )
-
-    def sure(self, window: Box, within: int = 0) -> Box:
-        """The sure pixels of a window, less so many lines of them on each side that isn't the image's own, in the
-        window's own columns and rows.
-        """
+    def deep(self, window: Box) -> Box:
+        """The pixels of a window that have all within `reach` in it too, in the window's own columns and rows."""
         bounds = []
         for low, high, side in ((window.top, window.bottom, self.shape[0]), (window.left, window.right, self.shape[1])):
-            first, last = self._sure(low, high, side)
-            first, last = first + within * (low > 0), last - within * (high < side)
-            bounds += [first - low, max(first, last) - low]
+            first = self.reach * (low > 0)
+            bounds += [first, max(first, high - low - self.reach * (high < side))]
         return Box(*bounds)
-
-    def deep(self, window: Box) -> Box:
-        """The pixels of a window that are sure with their neighbours, in the window's own columns and rows."""
-        return self.sure(window, self.reach)
-
-
-def side_of_core(tile: int, margin: int, mesh: int) -> int:
-    """The side of a core, a multiple of the mesh, so that a tile with its margin is no more than the program takes."""
-    step = mesh or 1
-    tile = min(tile, int(MOST_PIXELS**0.5) - 2 * margin - step) // step * step
-    if tile < 1:
-        raise ValueError(f"a tile holds a cell and two cells on each side: it can't of cells of {mesh} pixels")
-    return tile
 
 
 # ---- the rows of a window's catalogue

@@ -26,13 +26,14 @@ LONG += ("test_machines", "test_report")
 
 
 def pytest_collection_modifyitems(items):
-    """Long tests begin first, so that in the end no process waits for another's. Without the program there is nothing
-    to test; building it would take many minutes.
+    """Long tests begin first, so that in the end no process waits for another's. Without the programs there is nothing
+    to test; building them would take many minutes.
     """
     items.sort(key=lambda item: item.path.stem not in LONG)
-    if not os.environ.get("MAXDETECT") and not shutil.which("maxdetect"):
-        for item in items:
-            item.add_marker(pytest.mark.skip(reason="the environment's MAXDETECT names no program"))
+    for name in ("maxdetect", "maxwide"):
+        if not os.environ.get(name.upper()) and not shutil.which(name):
+            for item in items:
+                item.add_marker(pytest.mark.skip(reason=f"the environment's {name.upper()} names no program"))
 
 
 def cut_into_tiles(monkeypatch, side):

@@ -48,6 +48,8 @@ def test_the_program_is_found(monkeypatch, tmp_path):
     monkeypatch.delenv("MAXDETECT")
     monkeypatch.setenv("PATH", str(tmp_path))
     assert maxdetect.find_program() == str(tmp_path / "maxdetect")
+    monkeypatch.setenv("MAXWIDE", "wide")
+    assert maxdetect.find_program(name="maxwide") == "wide"
 
 
 BUILD = """#!/bin/sh

@@ -15,6 +15,7 @@ from maxdetect import (
     _images as images,
     _kernel as kernel,
     _maps as maps,
+    _wholenumbers as wholenumbers,
 )
 from maxdetect._arrays import ArrayPlane
 
@@ -65,7 +66,7 @@ def test_a_large_map_stands_in_a_file(here, monkeypatch):
 
 def test_rows_are_read_and_written_some_at_a_time(here, monkeypatch, stars):
     before = written(here, "image.fits")
-    for module, count in ((images, 7), (kernel, 11), (fitstables, 3)):
+    for module, count in ((images, 7), (wholenumbers, 11), (fitstables, 3)):
         monkeypatch.setattr(module, "AT_ONCE", count)
     assert written(here, "image.fits") == before
     found = images.opened("image.fits").window(slice(3, 90), slice(5, 50))

@@ -21,6 +21,7 @@ from maxdetect import (
     _adding as adding,
     _cli as cli,
     _exporting as exporting,
+    _kernel as kernel,
     _survey_files as survey_files,
     _surveys as surveys,
     _telling as telling,
@@ -324,7 +325,7 @@ def test_what_is_not_added(tmp_path, table, program, monkeypatch):
         maxdetect.add(tmp_path / "s.db", "A", table, program=tmp_path / "text")
     for name in ("MAXSURVEY", "PATH"):
         monkeypatch.setenv(name, "")
-    monkeypatch.setattr(adding, "__file__", str(tmp_path / "a" / "b" / "c.py"))
+    monkeypatch.setattr(kernel, "__file__", str(tmp_path / "a" / "b" / "c.py"))
     with pytest.raises(Mistake, match="maxsurvey isn't on the PATH"):
         maxdetect.add(tmp_path / "s.db", "A", table)
 

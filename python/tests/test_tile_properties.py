@@ -1,7 +1,7 @@
 """Laws that hold for any image, tried on random ones; the day gives the seed, or the environment's SEED.
 
 25 examples of each are tried, or as many as the environment's EXAMPLES says. tests/compare_tiles.py tries many more of
-the first law.
+the first two laws.
 """
 import concurrent.futures
 import datetime
@@ -18,8 +18,9 @@ hypothesis = pytest.importorskip("hypothesis", reason="wants hypothesis (Debian:
 from hypothesis import strategies  # noqa: E402
 
 import maxdetect  # noqa: E402
-from maxdetect import _background as background, _detection as detection, _emptycells as emptycells  # noqa: E402
+from maxdetect import _detection as detection, _emptycells as emptycells  # noqa: E402
 from maxdetect import _tiles as tiles, _windows as windows  # noqa: E402
+from maxdetect._rows import Rows  # noqa: E402
 
 SEED = int(os.environ.get("SEED") or datetime.date.today().strftime("%Y%m%d"))
 
@@ -49,20 +50,32 @@ random_tiles = comparison()
 
 
 @law(strategies.integers(0, 2**32))
-def test_tiles_are_the_whole_but_for_what_no_window_holds(number):
+def test_tiles_are_the_whole(number):
     with pytest.MonkeyPatch.context() as kept:
         # The comparison sets them.
-        kept.setattr(windows, "MOST_PIXELS", windows.MOST_PIXELS)
         kept.setattr(tiles, "MARGIN", tiles.MARGIN)
-        assert random_tiles.compared(SEED, number) is None
+        kept.setattr(tiles, "MOST_AGAIN", tiles.MOST_AGAIN)
+        with concurrent.futures.ThreadPoolExecutor(2) as pool:
+            assert random_tiles.compared(SEED, number, (random_tiles.InTurn(), pool)) is None
+
+
+def plain(image, threshold, **options):
+    """What the program finds, as plain arrays."""
+    table, segments = maxdetect.detect(image, threshold, **options)
+    return Rows.of(table), segments
+
+
+@law(strategies.integers(0, 2**32))
+def test_windows_of_maxcat_are_the_whole_but_for_what_none_holds(number):
+    assert random_tiles.compared_windows(SEED, number, plain) is None
 
 
 def whole_cells(number):
     """An image of whole cells, none of them without a defined pixel, with a threshold and settings."""
-    image, threshold, _, _, options = random_tiles.case(SEED, number)
+    image, threshold, *_, options = random_tiles.case(SEED, number)
     mesh = options["mesh"] or 1
     image = image[: len(image) // mesh * mesh, : image.shape[1] // mesh * mesh]
-    if not image.size or emptycells.among(image, None, options["mesh"]) is not None:
+    if not image.size or emptycells.number_of(image, None, options["mesh"]) is not None:
         image = numpy.arange(64 * mesh * mesh).reshape(8 * mesh, 8 * mesh) % 11
     return numpy.ma.MaskedArray(image), threshold, options
 
@@ -70,11 +83,8 @@ def whole_cells(number):
 def rows_within(image, threshold, options, box):
     """The rows of the sources whose components lie in a box, without their numbers, in the box's columns and rows."""
     table, _ = maxdetect.detect(image, threshold, **options)
-    mask = numpy.ma.getmaskarray(image)
-    above = background.Above(image.data, mask, threshold, options["mesh"], options["flat"])
-    labels, _ = ndimage.label(
-        above(*(slice(0, side) for side in image.shape)), numpy.ones((3, 3)) if options["connect"] == 8 else None
-    )
+    above = maxdetect.filter(image, "direct", mesh=options["mesh"], flat=options["flat"]) >= threshold
+    labels, _ = ndimage.label(above.filled(False), numpy.ones((3, 3)) if options["connect"] == 8 else None)
     holds = [box.holds(windows.Box(y.start, y.stop, x.start, x.stop)) for y, x in ndimage.find_objects(labels)]
     held = numpy.array([False, *holds])[labels[table["YFIRST"] - 1, table["XFIRST"] - 1]]
     return sorted(tuple(row)[1:] for row in windows.moved(table[held], -box.left, -box.top))
@@ -83,14 +93,12 @@ def rows_within(image, threshold, options, box):
 @law(strategies.integers(0, 2**32), strategies.integers(0, 3), strategies.integers(0, 3))
 def test_an_image_moved_by_cells(number, down, across):
     image, threshold, options = whole_cells(number)
-    mesh = options["mesh"] or 1
-    top, left = min(down * mesh, len(image) - mesh), min(across * mesh, image.shape[1] - mesh)
-    whole = windows.Box(0, image.shape[0], 0, image.shape[1])
-    plan = windows.Plan(image.shape, whole, mesh, mesh, options["mesh"], options["flat"], options["connect"])
-    window = windows.Box(top, whole.bottom, left, whole.right)
-    deep = plan.deep(window)
-    there = windows.Box(deep.top + top, deep.bottom + top, deep.left + left, deep.right + left)
-    moved = rows_within(image[top:, left:], threshold, options, deep)
+    mesh, (height, width) = options["mesh"] or 1, image.shape
+    top, left = min(down * mesh, height - mesh), min(across * mesh, width - mesh)
+    # From here on a smooth background is the image's, and so are the neighbours.
+    within = 1 + (3 * mesh // 2 if options["mesh"] and not options["flat"] else 0)
+    there = windows.Box(top + within * (top > 0), height, left + within * (left > 0), width)
+    moved = rows_within(image[top:, left:], threshold, options, there.within(windows.Box(top, height, left, width)))
     assert moved == rows_within(image, threshold, options, there)
 
 

@@ -7,10 +7,11 @@ from scipy import ndimage
 
 import maxdetect
 from maxdetect import (
-    _background as background,
     _detection as detection,
+    _emptycells as emptycells,
     photometry,
     _tiles as tiles,
+    _wholenumbers as wholenumbers,
     _windows as windows,
 )
 from maxdetect._arrays import ArrayPlane
@@ -35,45 +36,59 @@ def are_the_same(whole, tiled):
     assert (whole[1] == tiled[1]).all() and whole[1].dtype == tiled[1].dtype
 
 
-@pytest.mark.parametrize("mesh, flat", [(0, False), (8, False), (8, True), (1, False), (7, False)])
-@pytest.mark.parametrize("shape, mask", [((1, 1), 0), ((37, 50), 0.3), ((40, 16), 0), ((33, 61), 0.97)])
-def test_the_background_is_the_programs(mesh, flat, shape, mask):
-    rng = numpy.random.default_rng(3)
-    image = numpy.ma.MaskedArray(rng.integers(-90, 90, shape), mask=rng.random(shape) < mask)
-    undefined = numpy.ma.getmaskarray(image)
-    kept = maxdetect.filter(image, "direct", mesh=mesh, flat=flat)
-    above = background.Above(image.data, undefined if undefined.any() else None, 5, mesh, flat)
-    rows, columns = slice(shape[0] // 3, shape[0]), slice(shape[1] // 4, shape[1])
-    assert (above(rows, columns) == (kept.data[rows, columns] >= 5) & ~undefined[rows, columns]).all()
+class InTurn(concurrent.futures.Executor):
+    """Does what it is given at once, and counts it."""
+
+    def __init__(self):
+        self.count = 0
+
+    def submit(self, work, *words, **options):
+        self.count += 1
+        future = concurrent.futures.Future()
+        future.set_result(work(*words, **options))
+        return future
+
+
+def whole_and_tiled(image, threshold, tile, **options):
+    """Tiles give what the whole gives; how many windows were looked at for that."""
+    whole, pool = maxdetect.detect(image, threshold, **options), InTurn()
+    are_the_same(whole, maxdetect.detect_tiles(image, threshold, tile, pool, **options))
+    return pool.count
 
 
 @pytest.mark.parametrize("tile", [16, 32, 48])
 @pytest.mark.parametrize("connect", [4, 8])
 @pytest.mark.parametrize("mesh, flat", [(0, False), (8, False), (16, True)])
 def test_tiles_are_the_whole(tile, connect, mesh, flat):
-    options = dict(min_area=3, connect=connect, mesh=mesh, flat=flat)
-    image = rough((100, 75))
-    are_the_same(maxdetect.detect(image, 120, **options), maxdetect.detect_tiles(image, 120, tile, **options))
+    image, options = rough((100, 75)), dict(min_area=3, connect=connect, mesh=mesh, flat=flat)
+    whole_and_tiled(image, 120, tile, **options)
+    are_the_same(maxdetect.detect(image, 120, **options), maxdetect.detect_tiles(image, 120, **options))
 
 
-@pytest.mark.parametrize("mesh, tile", [(0, 32), (2, 32), (4, 16), (8, 24)])
-def test_tiles_of_an_image_with_holes(mesh, tile):
+@pytest.mark.parametrize("mesh, tile", [(0, 32), (1, 40), (2, 32), (4, 16), (8, 24)])
+@pytest.mark.parametrize("flat", [False, True])
+def test_tiles_of_an_image_with_holes(mesh, tile, flat):
     image, rng = rough((90, 80), 5), numpy.random.default_rng(6)
     mask = rng.random(image.shape) < 0.03
     mask[20:55, 30:62] = mask[:9, 70:] = mask[:, 79:] = True
     image = numpy.ma.MaskedArray(image, mask=mask)
-    options = dict(min_area=1, connect=8, mesh=mesh)
-    whole = maxdetect.detect(image, 60, **options)
-    are_the_same(whole, maxdetect.detect_tiles(image, 60, tile, **options))
-    are_the_same(whole, maxdetect.detect_tiles(image.filled(-9999), 60, tile, blank=-9999, **options))
+    options = dict(min_area=1, connect=8, mesh=mesh, flat=flat)
+    whole_and_tiled(image, 60, tile, **options)
+    whole_and_tiled(image.filled(-9999), 60, tile, blank=-9999, **options)
 
 
-def test_components_that_reach_far_are_made_again():
+def test_a_component_larger_than_any_first_window(monkeypatch):
+    """It isn't cut: windows grow until one holds it."""
+    monkeypatch.setattr(tiles, "MARGIN", 4)
+    monkeypatch.setattr(tiles, "MOST_AGAIN", 100)
     image = numpy.zeros((120, 130), dtype="i4")
     image[10, 5:125] = image[10:110, 124] = image[60:64, 3:128] = 100
     image[10, 60], image[100, 124], image[62, 20] = 300, 250, 220
-    options = dict(connect=4, min_area=1)
-    are_the_same(maxdetect.detect(image, 50, **options), maxdetect.detect_tiles(image, 50, 16, **options))
+    count = whole_and_tiled(image, 50, 16)
+    assert maxdetect.detect_tiles(image, 50, 16, InTurn())[0].meta == {}
+    # Where many windows would have to be large the image is looked at once.
+    monkeypatch.setattr(tiles, "MOST_AGAIN", 1)
+    assert 72 < whole_and_tiled(image, 50, 16) < count
 
 
 def test_components_that_go_around_a_corner(monkeypatch):
@@ -82,131 +97,56 @@ def test_components_that_go_around_a_corner(monkeypatch):
     image = numpy.zeros((60, 20), dtype="i4")
     image[2, 3:19] = image[2:55, 18] = 100
     for turned in (image, image[::-1], image[:, ::-1], image.T, image.T[::-1], image.T[:, ::-1]):
-        whole = maxdetect.detect(turned, 50)
-        assert whole[0]["AREA"].tolist() == [68]
-        are_the_same(whole, maxdetect.detect_tiles(turned, 50, 16))
-
-
-@pytest.mark.parametrize("seed", range(8))
-def test_tiles_of_any_shape(seed, monkeypatch):
-    """test_tile_properties.py tries more of them."""
-    rng = numpy.random.default_rng(seed)
-    monkeypatch.setattr(tiles, "MARGIN", int(rng.choice([2, 8])))
-    for height, width, mesh in zip(*rng.integers(1, 90, (2, 2)), rng.choice([0, 4, 16], 2)):
-        image = rng.integers(0, 10, (height, width)) + numpy.indices((height, width)).sum(axis=0) // 7
-        image = numpy.ma.MaskedArray(image, mask=rng.random(image.shape) < rng.choice([0, 0.1, 0.4]))
-        options = dict(mesh=int(mesh), flat=bool(rng.integers(2)), connect=int(rng.choice([4, 8])))
-        threshold = int(rng.integers(0, 9)) + (0 if mesh else int(image.mean()) if image.count() else 0)
-        are_the_same(
-            maxdetect.detect(image, threshold, **options), maxdetect.detect_tiles(image, threshold, 16, **options)
-        )
-
-
-def test_components_that_no_window_holds_are_cut(monkeypatch):
-    monkeypatch.setattr(windows, "MOST_PIXELS", 90 * 90)
-    monkeypatch.setattr(tiles, "MARGIN", 8)
-    image = numpy.zeros((200, 200), dtype="i4")
-    image[10, 5:195] = image[10:195, 5] = 100
-    image[100:104, 100:104] = 100
-    table, segments = maxdetect.detect_tiles(image, 50, 64)
-    alone = table[segments[101, 101] - 1]
-    assert alone["AREA"] == 16 and alone["NUMBER"] not in table.meta["CUT"]
-    cut = segments[(image > 0) & (segments != alone["NUMBER"])]
-    assert set(table.meta["CUT"]) == set(cut.tolist()) and (cut > 0).all()
-
-
-def test_no_window_is_larger_than_the_program_takes(monkeypatch):
-    monkeypatch.setattr(windows, "MOST_PIXELS", 80 * 80)
-    monkeypatch.setattr(tiles, "MARGIN", 8)
-    detect, sizes = tiles.kernel.detect, []
-
-    def seen(image, *words, **options):
-        sizes.append(image.size)
-        return detect(image, *words, **options)
-
-    monkeypatch.setattr(tiles.kernel, "detect", seen)
-    table, segments = tiles.detect_tiles(numpy.full((200, 200), 7), 7, 64)
-    assert max(sizes) <= 80 * 80 and len(table) == len(table.meta["CUT"]) == 16 and (segments > 0).all()
-
-
-def test_what_one_tile_holds_is_cut_by_none(monkeypatch):
-    # The part that each tile sees grows to a window that the program doesn't take, where a smaller one holds all.
-    monkeypatch.setattr(windows, "MOST_PIXELS", 48 * 48)
-    monkeypatch.setattr(tiles, "MARGIN", 8)
-    image = numpy.zeros((96, 96), dtype="i4")
-    image[25, 18:46] = image[25:49, 45] = 100
-    whole = maxdetect.detect(image, 50)
-    are_the_same(whole, maxdetect.detect_tiles(image, 50, 16))
-
-
-@pytest.mark.parametrize("mesh", [0, 7, 8])
-def test_what_is_not_cut_is_the_wholes(mesh, monkeypatch):
-    rng = numpy.random.default_rng(20 + mesh)
-    monkeypatch.setattr(tiles, "MARGIN", 8)
-    for height, width in rng.integers(50, 75, (2, 2)):
-        image = rng.integers(0, 10, (height, width))
-        options = dict(mesh=mesh, connect=8, min_area=2)
-        whole, its_map = maxdetect.detect(image, 7 - mesh // 2, **options)
-        with monkeypatch.context() as patched:
-            patched.setattr(windows, "MOST_PIXELS", 48 * 48)
-            table, segments = maxdetect.detect_tiles(image, 7 - mesh // 2, 16, **options)
-        kept = table[~numpy.isin(table["NUMBER"], table.meta.get("CUT", []))]
-        same = its_map[kept["YFIRST"] - 1, kept["XFIRST"] - 1]
-        assert all((kept[name] == whole[name][same - 1]).all() for name in table.colnames[1:])
-        # In the whole's numbers, and without those that are cut.
-        renumbered = numpy.zeros(len(table) + 1, dtype="i4")
-        renumbered[kept["NUMBER"]] = same
-        assert (renumbered[segments] == numpy.where(numpy.isin(its_map, same), its_map, 0)).all()
-
-
-def test_cells_without_a_pixel_that_only_a_wider_window_shows():
-    # The first window around a component shows none of the cells that have no defined pixel, a wider one does.
-    rows = [
-        [9, 89, 84, 33, 82, 7],
-        [76, 62, 47, 0, 14, 72],
-        [17, 45, 43, 47, 20, 9],
-        [67, 18, 7, 85, 20, 45],
-        [97, 25, 29, 29, 38, 65],
-    ]
-    image, options = numpy.ma.masked_equal(rows, 0), dict(mesh=1, connect=8, contrast=100)
-    are_the_same(maxdetect.detect(image, 20, **options), maxdetect.detect_tiles(image, 20, 2, **options))
+        assert maxdetect.detect(turned, 50)[0]["AREA"].tolist() == [68]
+        whole_and_tiled(turned, 50, 16)
 
 
 @pytest.mark.parametrize("shape", [(65, 65), (65, 60), (71, 65)])
-def test_a_last_cell_of_one_pixel_without_a_value(shape, monkeypatch):
+@pytest.mark.parametrize("mesh", [2, 4])
+def test_a_last_cell_of_one_pixel_without_a_value(shape, mesh):
     image = numpy.ma.MaskedArray(rough(shape, 4, 0.7), mask=False)
     image[:, -1] = image[-1] = numpy.ma.masked
-    options = dict(mesh=4, connect=8)
-    whole = maxdetect.detect(image, 90, **options)
-    monkeypatch.setattr(windows, "MOST_PIXELS", 56 * 56)
-    are_the_same(whole, maxdetect.detect_tiles(image, 90, 16, **options))
-    assert whole[0]["XMAX"].max() == shape[1] - 1 and whole[0]["YMAX"].max() == shape[0] - 1
-    with pytest.raises(ValueError, match="cells of 2 pixels"):
-        maxdetect.detect_tiles(image, 90, 16, mesh=2)
+    whole_and_tiled(image, 90, 16, mesh=mesh, connect=8)
 
 
-class InTurn(concurrent.futures.Executor):
-    """Does what it is given at once."""
+def test_cells_without_a_pixel_in_an_image_of_great_values():
+    """The words of a tile have no room for their number, so such an image is looked at whole."""
+    image = numpy.ma.MaskedArray(rough((50, 40)) + 2**35, mask=False)
+    image[8:24, 8:24] = numpy.ma.masked
+    assert whole_and_tiled(image, 100, 16, mesh=8) == 0
+    assert whole_and_tiled(image, 100, 16, mesh=8, flat=True) >= 12
 
-    def submit(self, work, *words, **options):
-        future = concurrent.futures.Future()
-        future.set_result(work(*words, **options))
-        return future
+
+@pytest.mark.parametrize("form", ["u1", "i2", "u4", "i8", "u8"])
+@pytest.mark.parametrize("shape", [(1, 1), (3, 5), (700, 31)])
+def test_the_lower_median(form, shape):
+    rng, numbers = numpy.random.default_rng(8), numpy.iinfo(form)
+    least, most = max(numbers.min, -(2**36)), min(numbers.max, 2**36)
+    for low, high in ((least, most), (max(least, -3), 3), (most - 1, most)):
+        image = rng.integers(low, high, shape, endpoint=True).astype(form)
+        mask = rng.random(shape) < rng.choice([0, 0.5])
+        kept = numpy.sort(image[~mask])
+        masked = numpy.ma.MaskedArray(image, mask=mask)
+        assert emptycells.lower_median(masked, None) == (kept[(kept.size - 1) // 2] if kept.size else 0)
 
 
 def test_any_executor_and_a_mapped_image(tmp_path):
     image = numpy.memmap(tmp_path / "image", "i2", "w+", shape=(128, 96))
     image[:] = rough(image.shape)
     whole = maxdetect.detect(image, 120, mesh=8, **WORDS)
-    segments = numpy.memmap(tmp_path / "map", "i4", "w+", shape=image.shape)
-    counted = []
-    found = maxdetect.detect_tiles(
-        image, 120, 32, InTurn(), mesh=8, segments=segments, progress=counted.append, **WORDS
-    )
-    are_the_same(whole, found)
-    assert found[1] is segments and sum(counted) == 12
+    for executor, count in ((InTurn(), 12), (None, 1)):
+        segments, counted = numpy.memmap(tmp_path / "map", "i4", "w+", shape=image.shape), []
+        found = maxdetect.detect_tiles(
+            image, 120, 32, executor, mesh=8, segments=segments, progress=counted.append, **WORDS
+        )
+        are_the_same(whole, found)
+        assert found[1] is segments and sum(counted) == count
     with concurrent.futures.ProcessPoolExecutor(2) as pool:
         are_the_same(whole, maxdetect.detect_tiles(image, 120, 64, pool, mesh=8, **WORDS))
+    with concurrent.futures.ThreadPoolExecutor(2) as pool:
+        options = dict(mesh=8, strips=4, workers=2, **WORDS)
+        are_the_same(whole, maxdetect.detect_tiles(image, 120, 64, pool, **options))
+        are_the_same(whole, maxdetect.detect_tiles(image, 120, **options))
 
 
 def test_a_dask_cluster():
@@ -221,15 +161,54 @@ def test_a_dask_cluster():
     are_the_same(whole, found)
 
 
-def test_what_is_refused():
-    with pytest.raises(ValueError, match="cells of 1024"):
-        maxdetect.detect_tiles(numpy.zeros((8, 8), dtype="i4"), 1, mesh=1024)
-    with pytest.raises(ValueError, match="two dimensions"):
-        maxdetect.detect_tiles(numpy.zeros(8, dtype="i4"), 1)
-    with pytest.raises(TypeError, match="whole numbers"):
-        maxdetect.detect_tiles(numpy.zeros((8, 8)), 1)
-    with pytest.raises(maxdetect.Refusal, match="threshold"):
-        maxdetect.detect_tiles(numpy.zeros((8, 8), dtype="i4"), 2**40)
+SMALL = numpy.zeros((8, 8), dtype="i4")
+
+
+@pytest.mark.parametrize("pool", [None, InTurn()])
+def test_what_is_refused(pool):
+    for kind, text, image, words in (
+        (ValueError, "two dimensions", SMALL[0], {}),
+        (ValueError, "a tile has a side", SMALL, {"tile": 0}),
+        (ValueError, r"the map has the sides \(4, 4\)", SMALL, {"segments": numpy.zeros((4, 4), "i4")}),
+        (ValueError, "too far from 0", SMALL + 2**37, {}),
+        (TypeError, "an image has whole numbers", SMALL + 0.5, {}),
+        (TypeError, "tile is a whole number", SMALL, {"tile": 1.5}),
+        (TypeError, "mesh is a whole number", SMALL, {"mesh": 1.5}),
+        (TypeError, "blank is a whole number", SMALL, {"blank": 1.5}),
+        (maxdetect.Refusal, "usage: mesh isn't given", SMALL, {"mesh": -3}),
+        (maxdetect.Refusal, "usage: connect isn't given", SMALL, {"connect": 5}),
+        (maxdetect.Refusal, "NoImage", SMALL[:0], {}),
+        (maxdetect.Refusal, "ImageTooLarge", numpy.zeros((1, 70000), dtype="u1"), {}),
+        # Of these the program sees no pixel.
+        (maxdetect.Refusal, "ImageTooLarge", numpy.broadcast_to(numpy.uint8(0), (65535, 32769)), {}),
+        (maxdetect.NoProgram, "can't be run", SMALL, {"program": "/nowhere/maxwide"}),
+    ):
+        with pytest.raises(kind, match=text) as told:
+            maxdetect.detect_tiles(image, 1, executor=pool, **words)
+        assert len(str(told.value).splitlines()) == 1
+
+
+def test_values_are_those_that_the_whole_may_have(monkeypatch):
+    """Also where each window is small enough for more."""
+    monkeypatch.setattr(wholenumbers, "MOST_PIXELS", 60)
+    for pool in (None, InTurn()):
+        with pytest.raises(ValueError, match="too far from 0"):
+            maxdetect.detect_tiles(SMALL + 2**29 + 1, 1, 2, pool)
+
+
+def test_a_program_that_is_killed(tmp_path):
+    """A tile's, or the one that joins them."""
+    for number, text in enumerate(("kill -9 $$", f'[ $1 = join ] && kill -9 $$; exec "{find()}" "$@"')):
+        program = tmp_path / f"program{number}"
+        program.write_text(f"#!/bin/sh\n{text}\n")
+        program.chmod(0o755)
+        for pool in (InTurn(), concurrent.futures.ThreadPoolExecutor(2)):
+            with pytest.raises(maxdetect.Refusal, match="killed: signal 9"):
+                maxdetect.detect_tiles(SMALL, 1, 4, pool, program=program)
+
+
+def find():
+    return maxdetect.find_program(name="maxwide")
 
 
 @pytest.mark.parametrize("tile", [128, 256])
@@ -238,10 +217,8 @@ def test_tiles_of_a_crowd(tile):
     light = numpy.zeros((520, 500))
     light[rng.integers(0, 520, 2000), rng.integers(0, 500, 2000)] = 10 ** rng.uniform(2.5, 4.5, 2000)
     image = rng.poisson(900 + ndimage.gaussian_filter(light, 1.5) + ndimage.gaussian_filter(light, 9)).astype("i4")
-    options = dict(min_area=5, connect=8, mesh=64)
-    whole = maxdetect.detect(image, 68, **options)
-    assert len(whole[0]) > 500
-    are_the_same(whole, maxdetect.detect_tiles(image, 68, tile, **options))
+    assert len(maxdetect.detect(image, 68, min_area=5, connect=8, mesh=64)[0]) > 500
+    whole_and_tiled(image, 68, tile, min_area=5, connect=8, mesh=64)
 
 
 def test_components_are_cut_by_squares_whatever_the_tiles(monkeypatch, stars):
