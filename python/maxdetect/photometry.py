@@ -342,10 +342,11 @@ class _Apertures:
         flux, error, told = self._sum(residual, err=noise, **alone)
         holed, near = numpy.zeros(len(flux), dtype=bool), holes.near(*self.places[:2], self.reach)
         if near.size:
-            unseen, area = (self._sum(image, near)[0] for image in holes.images)
-            with numpy.errstate(divide="ignore"):
+            unseen = self._sum(holes.images[0], near)[0]
+            unseen, near = unseen[unseen > 0], near[unseen > 0]
+            area = self._sum(holes.images[1], near)[0]
+            with numpy.errstate(divide="ignore", invalid="ignore"):
                 times = numpy.where(area > unseen, area / (area - unseen), numpy.nan)
-            times, near = times[unseen > 0], near[unseen > 0]
             flux[near], error[near], holed[near] = flux[near] * times, error[near] * numpy.sqrt(times), True
         if gain:
             error = numpy.sqrt(error**2 + numpy.maximum(flux, 0) / gain)
