@@ -49,6 +49,10 @@ def _around(
     bounds = []
     for at, side in ((rows, numbers.shape[0]), (columns, numbers.shape[1])):
         bounds += [numpy.maximum(at - half, 0), numpy.minimum(at + half + 1, side)]
+    bits = ((2 * half + 1) ** 2).bit_length()
+    if 2 * bits < 32:
+        both = boxes.within(boxes.both_sums(numbers, beside, bits), *bounds)
+        return _Around(both & (2**bits - 1), both >> bits)
     pixels = boxes.within(boxes.sums(beside, "i4"), *bounds)
     return _Around(pixels, boxes.within(boxes.sums(numpy.where(beside, numbers, 0)), *bounds))
 
@@ -63,10 +67,10 @@ def _halos(above: numpy.ndarray, labels: numpy.ndarray, segments: numpy.ndarray,
     # Seldom, and SciPy takes long to load.
     from scipy import ndimage
 
-    components, _ = ndimage.label(above, numpy.ones((3, 3)))
-    found = ndimage.find_objects(components)
-    count = numpy.bincount(components[away])
-    for number in numpy.flatnonzero(count >= least).tolist():
+    components, last = ndimage.label(above, numpy.ones((3, 3)))
+    many = numpy.bincount(components[away], minlength=last + 1) >= least
+    found = ndimage.find_objects(components) if many.any() else []
+    for number in numpy.flatnonzero(many).tolist():
         at = found[number - 1]
         own = components[at] == number
         yield at, own, away[at] & own

@@ -63,7 +63,7 @@ def _weights_at(places: numpy.ndarray, finite: numpy.ndarray, weights: numpy.nda
         return _along_both(finite.astype("f4"), weights).ravel()[places]
     (height, width), reach = finite.shape, len(weights) // 2
     # Down a column without an undefined pixel near a row they are the same as of all such columns.
-    down, stride = numpy.zeros((height, width + 2 * reach), dtype="f4"), width + 2 * reach
+    down = numpy.zeros((height, width + 2 * reach), dtype="f4")
     down[:, reach : reach + width] = _down(numpy.ones((height, 1), dtype="f4"), weights)
     rows, columns = numpy.nonzero(~finite)
     steps = numpy.arange(-reach, reach + 1)
