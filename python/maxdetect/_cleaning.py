@@ -93,9 +93,9 @@ def kept(
     least = LEAST_SHARE * (2 * half + 1) ** 2
     undefined = numbers == numpy.iinfo(numbers.dtype).min
     places = numpy.flatnonzero(segments != 0)
-    count, total = _around(
-        numbers, ~(grown(labels != 0, CLOSE) | above | undefined), half, *numpy.divmod(places, numbers.shape[1])
-    )
+    rows = places // numbers.shape[1]
+    beside, columns = ~(grown(labels != 0, CLOSE) | above | undefined), places - rows * numbers.shape[1]
+    count, total = _around(numbers, beside, half, rows, columns)
     for at, own, away in _halos(above, labels, segments, least):
         rows, columns = numpy.nonzero(own & (segments[at] != 0))
         more = _around(numbers[at], away, half, rows, columns)
