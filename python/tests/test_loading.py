@@ -67,9 +67,9 @@ def grids(count, most):
 
 
 def test_the_nearest_that_is_known_is_that_of_scipy():
-    for number, grid in enumerate(grids(300, 14)):
-        known = grid > numpy.quantile(grid, (0.95, 0.7, 0.3)[number % 3])
-        known.flat[number % known.size] = True
+    for rng, grid in grids(300, 14):
+        known = rng.random(grid.shape) < rng.choice([0.05, 0.3, 0.7])
+        known.flat[rng.integers(known.size)] = True
         wanted = ndimage.distance_transform_edt(~known, return_distances=False, return_indices=True)
         assert (numpy.array(sky._nearest(known)) == wanted).all()
 
