@@ -1,7 +1,10 @@
 """Sums over boxes of an image, in whole numbers, so that they are the same in every window that holds the box."""
 import numpy
 
-__all__ = ["sums", "within"]
+__all__ = ["both_sums", "sums", "within"]
+
+# So many rows are at work at a time.
+ROWS = 32
 
 
 def sums(image: numpy.ndarray, dtype: str = "i8") -> numpy.ndarray:
@@ -11,6 +14,22 @@ def sums(image: numpy.ndarray, dtype: str = "i8") -> numpy.ndarray:
     found = numpy.zeros([side + 1 for side in image.shape], dtype=dtype)
     numpy.cumsum(image, axis=1, dtype=dtype, out=found[1:, 1:])
     # By rows, since numpy's sums down the columns take six times as long.
+    for row in range(1, len(found)):
+        found[row] += found[row - 1]
+    return found
+
+
+def both_sums(image: numpy.ndarray, chosen: numpy.ndarray, bits: int) -> numpy.ndarray:
+    """The sums of the chosen pixels of an image of 32 bits, 2^`bits` times, and how many these are, in one number: that
+    of a box with less than 2^`bits` pixels has room for both, also where that of the whole image overflows.
+    """
+    found = numpy.zeros([side + 1 for side in image.shape], dtype="i8")
+    for top in range(0, len(image), ROWS):
+        both = image[top : top + ROWS].astype("i8")
+        both <<= bits
+        both += 1
+        both *= chosen[top : top + ROWS]
+        numpy.cumsum(both, axis=1, out=found[top + 1 : top + 1 + len(both), 1:])
     for row in range(1, len(found)):
         found[row] += found[row - 1]
     return found

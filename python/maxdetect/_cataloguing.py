@@ -48,15 +48,16 @@ def _scratch_map(shape):
 
 
 @contextlib.contextmanager
-def _filled_map(segments: Optional[numpy.ndarray], shape):
-    """The map that is to be filled. Where none is asked for a large one stands in a file that goes away, as long as the
-    disk has room for it; None stands for one in memory.
+def _room_for_map(segments: Optional[numpy.ndarray], shape):
+    """Where no map is asked for a large one stands in a file that goes away, as long as the disk has room for it; None
+    stands for one in memory.
     """
+    room = None
     with contextlib.ExitStack() as stack:
         if segments is None and shape[0] * shape[1] > LARGE:
             with contextlib.suppress(Mistake, OSError):
-                segments = stack.enter_context(_scratch_map(shape))
-        yield segments
+                room = stack.enter_context(_scratch_map(shape))
+        yield room
 
 
 @contextlib.contextmanager
@@ -187,8 +188,8 @@ def done(task: Task, given: argparse.Namespace, tiles, progress) -> str:
             filled = checks.writer({kind: each[number] for kind, each in shown.items()})
             told = _told(filled, skies) if given.report else filled
             more = {"bands": task.bands[number], "told": told, "progress": progress}
-            with _filled_map(segments, field.shape) as room:
-                table = detection.sources(field, tiles, segments=room, **more)
+            with _room_for_map(segments, field.shape) as room:
+                table = detection.sources(field, tiles, segments=segments, room=room, **more)
             _count_on(table, segments, sum(map(len, found)))
             found.append(_finished(table, number, task, given))
         table = _write(found, task, given, names)

@@ -49,6 +49,10 @@ def _around(
     bounds = []
     for at, side in ((rows, numbers.shape[0]), (columns, numbers.shape[1])):
         bounds += [numpy.maximum(at - half, 0), numpy.minimum(at + half + 1, side)]
+    bits = ((2 * half + 1) ** 2).bit_length()
+    if 2 * bits < 32:
+        both = boxes.within(boxes.both_sums(numbers, beside, bits), *bounds)
+        return _Around(both & (2**bits - 1), both >> bits)
     pixels = boxes.within(boxes.sums(beside, "i4"), *bounds)
     return _Around(pixels, boxes.within(boxes.sums(numpy.where(beside, numbers, 0)), *bounds))
 
@@ -63,10 +67,10 @@ def _halos(above: numpy.ndarray, labels: numpy.ndarray, segments: numpy.ndarray,
     # Seldom, and SciPy takes long to load.
     from scipy import ndimage
 
-    components, _ = ndimage.label(above, numpy.ones((3, 3)))
-    found = ndimage.find_objects(components)
-    count = numpy.bincount(components[away])
-    for number in numpy.flatnonzero(count >= least).tolist():
+    components, last = ndimage.label(above, numpy.ones((3, 3)))
+    many = numpy.bincount(components[away], minlength=last + 1) >= least
+    found = ndimage.find_objects(components) if many.any() else []
+    for number in numpy.flatnonzero(many).tolist():
         at = found[number - 1]
         own = components[at] == number
         yield at, own, away[at] & own
@@ -89,9 +93,9 @@ def kept(
     least = LEAST_SHARE * (2 * half + 1) ** 2
     undefined = numbers == numpy.iinfo(numbers.dtype).min
     places = numpy.flatnonzero(segments != 0)
-    count, total = _around(
-        numbers, ~(grown(labels != 0, CLOSE) | above | undefined), half, *numpy.divmod(places, numbers.shape[1])
-    )
+    rows = places // numbers.shape[1]
+    beside, columns = ~(grown(labels != 0, CLOSE) | above | undefined), places - rows * numbers.shape[1]
+    count, total = _around(numbers, beside, half, rows, columns)
     for at, own, away in _halos(above, labels, segments, least):
         rows, columns = numpy.nonzero(own & (segments[at] != 0))
         more = _around(numbers[at], away, half, rows, columns)

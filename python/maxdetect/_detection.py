@@ -113,6 +113,7 @@ def sources(
     executor: Optional[concurrent.futures.Executor] = None,
     *,
     segments: Optional[numpy.ndarray] = None,
+    room: Optional[numpy.ndarray] = None,
     bands: Optional[Dict[str, Field]] = None,
     told: Optional[Callable] = None,
     progress: Callable[[int], None] = lambda count: None,
@@ -120,7 +121,8 @@ def sources(
 ) -> Rows:
     """The sources of a field with their photometry, in columns and rows of the image, numbered by their first pixels.
 
-    Tiles and photometry run in the executor. `segments`, an array of the image's shape full of zeros, gets the map.
+    Tiles and photometry run in the executor. `segments`, an array of the image's shape full of zeros, gets the map;
+    where none is wanted, `room` is such an array to work in.
     `bands` are fields with the same image and others to measure in: each adds columns with its name. `told` is called
     with the detector, the sky beside the sources of what is measured in and that with them, and the table.
     `progress` is called with 1 for each tile, after a first call with 0, and with 0 now and then. The table's meta has
@@ -129,7 +131,8 @@ def sources(
     left out as peaks of noise on faint light (NCLEANED), and the noise: SIGMA, or with a weight map NOISE, about the
     middle of the image.
     """
-    detector = _detector(field, executor, program)
+    detector, wanted = _detector(field, executor, program), segments is not None
+    segments = room if segments is None else segments
     segments = numpy.zeros(field.shape, dtype="i4") if segments is None else segments
     progress(0)
     found = _found(detector, executor, segments, progress)
@@ -140,7 +143,8 @@ def sources(
     table["FLAGS"] |= numpy.where(found.cut, CUT, 0).astype(table["FLAGS"].dtype)
     if field.settings.wide:
         table = _with_wide(detector, table, segments, executor, bands or {})
-    joining.hide(segments)
+    if wanted:
+        joining.hide(segments)
     table.meta.update(_meta(detector, skies, found))
     return table
 

@@ -8,7 +8,7 @@ import concurrent.futures
 import dataclasses
 import itertools
 import math
-from typing import TYPE_CHECKING, Callable, Iterator, List, Optional, Tuple
+from typing import TYPE_CHECKING, Callable, Iterator, Optional, Tuple
 
 import numpy
 
@@ -140,9 +140,11 @@ class _Window:
     def __call__(self, item: Tuple[Box, Rows, numpy.ndarray]) -> Rows:
         box, rows, segments = item
         field, settings = self.detector.field, self.detector.settings
+        level, noise = self._sky(box)
         found = photometry.measured(
             field.to_measure(box.rows, box.columns),
-            *self._sky(box),
+            level,
+            noise,
             segments,
             moved(rows.copy(), -box.left, -box.top),
             gain=settings.gain,
@@ -156,7 +158,7 @@ class _Window:
             vignet=settings.vignet,
         )
         found["STELLARITY"] = shapes.stellarity(2 * found["FLUX_RADIUS"], self.points)
-        found["BACKGROUND"], found["THRESHOLD"] = self._beside(box, found)
+        found["BACKGROUND"], found["THRESHOLD"] = self._beside(box, found, level)
         return moved(found, box.left, box.top)
 
     @property
@@ -167,31 +169,38 @@ class _Window:
         scale = how.noise / scaling.SIGMA / math.sqrt(smoothing.correlated(how.smooth))
         return shapes.Seen(scale, how.smooth, field.values is None)
 
-    def _beside(self, box: Box, found: Rows) -> Tuple[numpy.ndarray, numpy.ndarray]:
-        """The level of the sky at the middles of sources in a window, and by how much a pixel of the smoothed image has
-        to stand above the level there to be a source's, in the image's units.
+    def _beside(self, box: Box, found: Rows, level: photometry.Numbers) -> Tuple[numpy.ndarray, numpy.ndarray]:
+        """The level of the sky, given for a window's pixels, at the middles of sources there, and by how much a pixel
+        of the smoothed image has to stand above the level there to be a source's, in the image's units.
         """
         sides = (box.bottom - box.top, box.right - box.left)
         at = tuple(
             numpy.clip(numpy.round(numpy.asarray(found[name])).astype(int) - 1, 0, side - 1)
             for name, side in zip("YX", sides)
         )
-        how, level = self.detector.how, self._sky(box)[0]
-        noise = self.detector.noise(box.rows, box.columns)
-        levels, noises = (numpy.broadcast_to(numpy.asarray(it, dtype="f8"), sides)[at] for it in (level, noise))
+        how, noise = self.detector.how, self.detector.noise(box.rows, box.columns)
+        levels, noises = (numpy.broadcast_to(it, sides)[at].astype("f8") for it in (level, noise))
         plane = self.detector.field.values or self.detector.field.plane
         return levels + plane.origin, noises * how.threshold * self.seen.scale
 
 
-def _needed(table: Rows, reach: numpy.ndarray, shape: Tuple[int, int]) -> List[Box]:
-    """For each source the box of the image that holds it with its neighbours, and all that is so near its centre."""
+def _needed(table: Rows, reach: numpy.ndarray, shape: Tuple[int, int]) -> numpy.ndarray:
+    """For each source the box of the image that holds it with its neighbours, and all that is so near its centre: the
+    numbers of a `Box`, a line for each of them.
+    """
     sides = []
     for name, side in zip("YX", shape):
         centre = numpy.asarray(table[f"{name}CEN"]) / 1000 - 1
         low = numpy.minimum(numpy.asarray(table[f"{name}MIN"]) - 2, numpy.floor(centre - reach))
         high = numpy.maximum(numpy.asarray(table[f"{name}MAX"]) + 1, numpy.ceil(centre + reach) + 1)
-        sides += [numpy.clip(low, 0, side).astype(int).tolist(), numpy.clip(high, 0, side).astype(int).tolist()]
-    return [Box(*bounds) for bounds in zip(*sides)]
+        sides += [numpy.clip(low, 0, side), numpy.clip(high, 0, side)]
+    return numpy.array(sides).astype(int)
+
+
+def _holds(box: Box, boxes: numpy.ndarray) -> numpy.ndarray:
+    """Which boxes lie in a box."""
+    top, bottom, left, right = boxes
+    return (box.top <= top) & (bottom <= box.bottom) & (box.left <= left) & (right <= box.right)
 
 
 def _blocks(table: Rows, shape: Tuple[int, int]) -> Iterator[Tuple[Box, numpy.ndarray]]:
@@ -240,10 +249,12 @@ def measured(
             maps.let_go(segments)
             wanted = numpy.maximum(answer["KRON_RADIUS"], windowed.reach(answer["FLUX_RADIUS"])) + 2
             boxes = _needed(table[places], numpy.maximum(reach[places], wanted), shape)
-            held = numpy.array([box.holds(it) for it in boxes])
+            held = _holds(box, boxes)
             answers.append(answer[held])
             where.append(places[held])
-            windows += [(boxes[number], places[[number]]) for number in numpy.flatnonzero(~held)]
+            windows += [
+                (Box(*boxes[:, number].tolist()), places[[number]]) for number in numpy.flatnonzero(~held).tolist()
+            ]
         if not windows:
             break
         waiting = iter(windows)

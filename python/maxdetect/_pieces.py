@@ -86,10 +86,11 @@ class _Meetings(NamedTuple):
 
 def _meetings(grid: _Grid) -> _Meetings:
     """Where parts meet. Two pixels side by side meet at the lesser of their numbers."""
-    inside = grid.places[grid.labels[grid.places] != 0]
+    owners = grid.labels[grid.places]
+    inside, one = grid.places[owners != 0], owners[owners != 0]
     found = []
     for step in grid.steps(False):
-        one, other = grid.labels[inside], grid.labels[inside + step]
+        other = grid.labels[inside + step]
         touch = (other != 0) & (one != other)
         at = inside[touch]
         pair = numpy.sort(numpy.stack([one[touch], other[touch]]), axis=0)
@@ -137,8 +138,11 @@ def _owners(
     members = {part: [part] for part in owner}
 
     def above(group: int, level: int) -> Tuple[int, int]:
-        areas, fluxes = zip(*[light.above(part, level) for part in members[group]])
-        return sum(areas), sum(fluxes)
+        area = flux = 0
+        for part in members[group]:
+            more = light.above(part, level)
+            area, flux = area + more[0], flux + more[1]
+        return area, flux
 
     for one, other, level in zip(*meetings):
         one, other = owner[one], owner[other]

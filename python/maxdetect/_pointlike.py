@@ -17,9 +17,9 @@ BRIGHT, LEAST_AREA, MOST, FEWEST = 10.0, 4, 100, 5
 # Half-light radii that are alike lie so far, as a part of it, from the one that most have.
 ALIKE = 0.15
 # Radii in pixels within which light is summed up; the first circle that is taken for all of a source; and how many
-# half-light radii later ones have.
+# half-light radii later ones have. No other source lies within the first of them, less than `NEAR`.
 RADII = numpy.concatenate([numpy.arange(0.5, 8, 0.25), numpy.arange(8, 31, 2.0)])
-FIRST, REACH = 8.0, 6.0
+FIRST, REACH, NEAR = 8.0, 6.0, 4.0
 
 
 @dataclasses.dataclass(frozen=True)
@@ -62,10 +62,12 @@ def _growth(image: numpy.ndarray, undefined: numpy.ndarray, limit: float) -> num
     numbers = numbers[numpy.argsort(-sources["flux"][numbers], kind="stable")][:MOST]
     x, y, _ = sep.winpos(image, sources["x"][numbers], sources["y"][numbers], numpy.full(len(numbers), 1.0))
     alone = {"seg_id": (numbers + 1).astype("i4"), "segmap": segments, "mask": undefined}
-    sums = [sep.sum_circle(image, x, y, radius, subpix=0, **alone) for radius in RADII]
-    small = sums[: int(numpy.searchsorted(RADII, 4))]
-    whole = numpy.all([(told & sep.APER_HASMASKED) == 0 for _, _, told in small], axis=0)
-    return numpy.array([flux for flux, _, _ in sums]).T[whole]
+    small = int(numpy.searchsorted(RADII, NEAR))
+    sums = [sep.sum_circle(image, x, y, radius, subpix=0, **alone) for radius in RADII[:small]]
+    whole = numpy.all([(told & sep.APER_HASMASKED) == 0 for _, _, told in sums], axis=0)
+    x, y, alone["seg_id"] = x[whole], y[whole], alone["seg_id"][whole]
+    more = [sep.sum_circle(image, x, y, radius, subpix=0, **alone)[0] for radius in RADII[small:]]
+    return numpy.array([*(flux[whole] for flux, _, _ in sums), *more]).T
 
 
 def _most_common(values: numpy.ndarray) -> float:

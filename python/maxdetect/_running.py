@@ -13,7 +13,7 @@ from typing import Callable, ContextManager, List, Optional, Tuple, Union
 from astropy.utils.exceptions import AstropyWarning
 
 from . import _asked as asked, _kernel as kernel, _measuring as measuring, _pools as pools, _resuming as resuming
-from . import _cataloguing as cataloguing, _detection as detection
+from . import _cataloguing as cataloguing, _detection as detection, _spare as spare
 from ._errors import Mistake
 from ._executors import each
 from ._tasks import Task, check_files, check_options, inputs_of, outputs_of, task_of
@@ -153,6 +153,7 @@ def run(given: argparse.Namespace) -> bool:
     """
     warnings.simplefilter("ignore", AstropyWarning)
     warnings.simplefilter("ignore", RuntimeWarning)
+    spare.keep(given.workers)
     every, all_done = _ready(given), True
     good = [item for item in every if isinstance(item, Task)]
     with contextlib.ExitStack() as stack:

@@ -1,5 +1,5 @@
 """Columns of a source beside its fluxes: centres with errors, sizes, peaks, and its pixels."""
-from typing import Dict, NamedTuple, Optional
+from typing import Dict, NamedTuple, Optional, Tuple
 
 import numpy
 
@@ -46,8 +46,10 @@ def stellarity(diameter: numpy.ndarray, points: Optional[PointSources]) -> numpy
         return 1 / (1 + (diameter / (WIDER * points.half)) ** STEEP)
 
 
-def _peaks(values: numpy.ndarray, numbers: numpy.ndarray, places: numpy.ndarray, length: int, width: int):
-    """The greatest value of each source, by number, NaN where it has none, with its column and row, from 1."""
+def _peaks(values: numpy.ndarray, numbers: numpy.ndarray, where: Tuple[numpy.ndarray, numpy.ndarray], length: int):
+    """The greatest value of each source, by number, NaN where it has none, with its column and row, from 1. Rows and
+    columns of the pixels are those from 0.
+    """
     peak, at = numpy.full(length, numpy.nan), numpy.zeros((2, length), dtype="i4")
     # Short numbers are sorted in one pass.
     order = numpy.argsort(numbers.astype("u2") if length <= 2**16 else numbers, kind="stable")
@@ -55,7 +57,7 @@ def _peaks(values: numpy.ndarray, numbers: numpy.ndarray, places: numpy.ndarray,
     peak[numbers[order[starts]]] = numpy.maximum.reduceat(values[order], starts) if starts.size else numpy.nan
     # Of several places the last one that is written stays, which is the first.
     greatest = numpy.flatnonzero(values == peak[numbers])[::-1]
-    at[:, numbers[greatest]] = numpy.array(numpy.divmod(places[greatest], width)) + 1
+    at[:, numbers[greatest]] = numpy.array([it[greatest] for it in where]) + 1
     return peak, at[1], at[0]
 
 
@@ -70,9 +72,7 @@ def _of_centres(scene: Scene, seen: Seen, pixels, catalogue: Rows) -> Dict[str, 
     centre = numpy.zeros((2, pixels.length))
     for axis, name in enumerate(("YCEN", "XCEN")):
         centre[axis, numbers] = numpy.asarray(catalogue[name]) / 1000 - 1
-    down, right = (
-        at - mid[pixels.numbers] for at, mid in zip(numpy.divmod(pixels.places, scene.residual.shape[1]), centre)
-    )
+    down, right = (at - mid[pixels.numbers] for at, mid in zip(pixels.at, centre))
     variance = numpy.ones(len(pixels.places))
     if scene.gain and seen.same:
         noise = scene.noise if numpy.ndim(scene.noise) == 0 else numpy.asarray(scene.noise).ravel()[pixels.places]
@@ -101,7 +101,7 @@ def columns(scene: Scene, seen: Optional[Seen], pixels, catalogue: Rows, half: n
         made[name] = numpy.where(known, found[name], made[plain] if plain in made.colnames else numpy.nan)
     made["SNR_WIN"] = found["SNR_WIN"]
     values = scene.residual.ravel()[pixels.places].astype("f8")
-    peaks = _peaks(values, pixels.numbers, pixels.places, pixels.length, scene.residual.shape[1])
+    peaks = _peaks(values, pixels.numbers, pixels.at, pixels.length)
     for name, column in zip(("FLUX_MAX", "XPEAK", "YPEAK"), peaks):
         made[name] = column[numbers]
     if vignet:

@@ -17,6 +17,8 @@ CELL, LEAST_CELL, MOST_BANDS = 6, 16, 24
 CACHED = 2**16
 # From this many columns on SciPy sums along rows: it is quicker, and takes as long to load as a small image to smooth.
 WIDE = 1024
+# Up to this part of an image its weights are summed up place by place.
+FEW = 0.1
 
 
 def margin(width: float) -> int:
@@ -46,11 +48,41 @@ def smoothed(image: numpy.ndarray, width: float) -> numpy.ndarray:
     if defined:
         return total
     # Only beside undefined pixels, so that all others have the same value in every window to the last digit.
-    near = sky.grown(~finite, reach)
+    places = numpy.flatnonzero(sky.grown(~finite, reach))
     with numpy.errstate(divide="ignore", invalid="ignore"):
-        total[near] = sums[near] / numpy.sqrt(_along_both(finite.astype("f4"), weights**2)[near])
+        total.ravel()[places] = sums.ravel()[places] / numpy.sqrt(_weights_at(places, finite, weights**2))
     total[~finite] = numpy.nan
     return total
+
+
+def _weights_at(places: numpy.ndarray, finite: numpy.ndarray, weights: numpy.ndarray) -> numpy.ndarray:
+    """The weights that count at some places of a flat image, of which these pixels have a value; all within reach of
+    the others are among the places. The sums are those of `_along_both` to the last digit, but of a few places.
+    """
+    if len(places) > FEW * finite.size:
+        return _along_both(finite.astype("f4"), weights).ravel()[places]
+    (height, width), reach = finite.shape, len(weights) // 2
+    # Down a column without an undefined pixel near a row they are the same as of all such columns.
+    down = numpy.zeros((height, width + 2 * reach), dtype="f4")
+    down[:, reach : reach + width] = _down(numpy.ones((height, 1), dtype="f4"), weights)
+    rows, columns = numpy.nonzero(~finite)
+    steps = numpy.arange(-reach, reach + 1)
+    at, of = (it.ravel() for it in numpy.broadcast_arrays(rows[:, None] + steps, columns[:, None]))
+    at, of = (it[(at >= 0) & (at < height)] for it in (at, of))
+    column = numpy.zeros((len(weights), len(at)), dtype="f4")
+    for step in steps:
+        seen = numpy.clip(at + step, 0, height - 1)
+        column[step + reach] = finite[seen, of] & (seen == at + step)
+    down[at, reach + of] = _down(column, weights)[reach]
+    rows = places // width
+    flat, middle = down.ravel(), places + reach * (2 * rows + 1)
+    sums = flat[middle].astype("f8") * weights[reach]
+    for step in range(reach):
+        pair = flat[middle - (reach - step)].astype("f8")
+        pair += flat[middle + (reach - step)]
+        pair *= weights[step]
+        sums += pair
+    return sums.astype("f4")
 
 
 def _along_both(image: numpy.ndarray, weights: numpy.ndarray) -> numpy.ndarray:
@@ -89,12 +121,15 @@ def _down(image: numpy.ndarray, weights: numpy.ndarray) -> numpy.ndarray:
     reach, weights = len(weights) // 2, weights.astype("f4")
     padded, sums = numpy.pad(image, [(reach, reach), (0, 0)]), numpy.empty_like(image)
     band = max(1, CACHED // image.shape[1])
+    room = numpy.empty((band, image.shape[1]), dtype=image.dtype)
     for top in range(0, len(image), band):
         own = sums[top : top + band]
         rows = [padded[top + step : top + step + len(own)] for step in range(len(weights))]
         numpy.multiply(rows[reach], weights[reach], out=own)
         for step in range(reach):
-            own += (rows[step] + rows[-step - 1]) * weights[step]
+            pair = numpy.add(rows[step], rows[-step - 1], out=room[: len(own)])
+            pair *= weights[step]
+            own += pair
     return sums
 
 

@@ -16,8 +16,9 @@ __all__ = ["NAMES", "ellipse", "of", "reach"]
 WIDTH, LEAST = 2 / 2.3548, 0.8
 # How many deviations the sums reach, and how many pixels at most.
 REACH, MOST = 4.0, 200
-# The centre moves until it does so by less than this many pixels, or is given up after so many steps.
-STILL, STEPS = 1e-4, 40
+# The centre moves until it does so by less than this many pixels, or is given up after so many steps. Those that stand
+# still are taken out when no more than this part is left, since that costs about as much as a look at them.
+STILL, STEPS, LEFT = 1e-4, 40, 0.6
 NAMES = ("XWIN", "YWIN", "ERRAWIN", "ERRBWIN", "ERRTHETAWIN", "SNR_WIN")
 
 Noise = Union[float, numpy.ndarray]
@@ -27,7 +28,10 @@ def _weighted(places: numpy.ndarray, sigma: numpy.ndarray, power: int, order: in
     """A Gaussian's weights at places from its centre, to this power, times the places to the powers from 0 to `order`:
     a line for a source, each with a row for a place.
     """
-    weights = numpy.exp((-0.5 * power) * (places / sigma[:, None]) ** 2)
+    weights = places / sigma[:, None]
+    weights *= weights
+    weights *= -0.5 * power
+    numpy.exp(weights, out=weights)
     made = numpy.empty((*places.shape, order + 1))
     made[:, :, 0] = weights
     for step in range(order):
@@ -61,22 +65,24 @@ def _mirrored(found: stamps.Stamps) -> numpy.ndarray:
 def _centred(found: stamps.Stamps, values, x, y, sigma) -> Tuple[numpy.ndarray, numpy.ndarray, numpy.ndarray]:
     """The centres of the light under windows that stand around them, and where one is found."""
     start, last, at = numpy.array([x, y]), numpy.full(len(x), numpy.inf), numpy.arange(len(x))
-    places = start.copy()
+    places, moving = start.copy(), numpy.ones(len(x), dtype=bool)
+    rows, columns, widths = found.rows, found.columns, sigma
     for _ in range(STEPS):
         x, y = places[:, at]
-        sums = _Windows(found.rows[at] - y[:, None], found.columns[at] - x[:, None], sigma[at]).moments(values, 1)
+        sums = _Windows(rows - y[:, None], columns - x[:, None], widths).moments(values, 1)
         with numpy.errstate(invalid="ignore", divide="ignore"):
             step = 2 * numpy.array([sums[:, 0, 1], sums[:, 1, 0]]) / sums[:, 0, 0]
         length = numpy.hypot(*step)
-        going = (sums[:, 0, 0] > 0) & (numpy.hypot(x - start[0, at], y - start[1, at]) < sigma[at])
-        places[:, at[going]] += step[:, going]
-        last[at[going]] = length[going]
-        # What stands still isn't looked at again.
-        going &= length > STILL
-        if not going.all():
-            at, values = at[going], values[going]
-        if not at.size:
+        moving &= (sums[:, 0, 0] > 0) & (numpy.hypot(x - start[0, at], y - start[1, at]) < widths)
+        places[:, at[moving]] += step[:, moving]
+        last[at[moving]] = length[moving]
+        moving &= length > STILL
+        left = numpy.count_nonzero(moving)
+        if not left:
             break
+        if left <= LEFT * len(at):
+            at, values, rows, columns, widths = (it[moving] for it in (at, values, rows, columns, widths))
+            moving = numpy.ones(left, dtype=bool)
     return places[0], places[1], (last <= STILL) & (numpy.hypot(*(places - start)) < sigma)
 
 

@@ -11,8 +11,9 @@ Kron radius is the mean distance of the light, and at least 3.5 standard deviati
 pixels. FLUX_TOTAL has besides what point sources of the same image have further out. Pixels of other sources count as
 sky in each aperture.
 """
+import dataclasses
 import functools
-from typing import Callable, Dict, NamedTuple, Optional, Sequence, Tuple, Union
+from typing import Callable, Dict, Optional, Sequence, Tuple, Union
 
 import numpy
 import sep
@@ -57,14 +58,23 @@ APERTURE = 10.0
 Numbers = Union[float, numpy.ndarray]
 
 
-class _Pixels(NamedTuple):
-    """The pixels that belong to sources: their places in the flat image, the sources' numbers there, and how long
-    a list by number is.
+@dataclasses.dataclass
+class _Pixels:
+    """The pixels that belong to sources: their places in the flat image, the sources' numbers there, how long a list by
+    number is, and how many columns the image has.
     """
 
     places: numpy.ndarray
     numbers: numpy.ndarray
     length: int
+    width: int
+
+    @functools.cached_property
+    def at(self) -> Tuple[numpy.ndarray, numpy.ndarray]:
+        """Their rows and columns."""
+        # numpy's divmod takes twice as long.
+        rows = self.places // self.width
+        return rows, self.places - rows * self.width
 
     def summed(self, weights: numpy.ndarray) -> numpy.ndarray:
         """The sum of the weights over each source, by number."""
@@ -73,7 +83,7 @@ class _Pixels(NamedTuple):
     def among(self, chosen: numpy.ndarray) -> "_Pixels":
         """Those of an image's pixels that are chosen."""
         here = chosen.ravel()[self.places]
-        return self if here.all() else _Pixels(self.places[here], self.numbers[here], self.length)
+        return self if here.all() else _Pixels(self.places[here], self.numbers[here], self.length, self.width)
 
     def having(self, chosen: numpy.ndarray) -> numpy.ndarray:
         """Whether one of a source's pixels is chosen, by number."""
@@ -198,7 +208,8 @@ def _pixels_of(segments: numpy.ndarray, numbers: numpy.ndarray) -> _Pixels:
     """The pixels of a map that belong to sources, among them those with these numbers."""
     places = numpy.flatnonzero(segments.ravel() > 0)
     within = segments.ravel()[places]
-    return _Pixels(places, within, int(max(within.max(initial=0), numbers.max(initial=0))) + 1)
+    length = int(max(within.max(initial=0), numbers.max(initial=0))) + 1
+    return _Pixels(places, within, length, segments.shape[1])
 
 
 def residual_of(image: numpy.ndarray, background: Numbers, undefined: numpy.ndarray) -> numpy.ndarray:
@@ -259,11 +270,12 @@ def _gathered(pixels: _Pixels, residual: numpy.ndarray, catalogue: Rows) -> nump
         listed[numbers] = values
         return listed[pixels.numbers]
 
-    rows, columns = numpy.divmod(pixels.places, residual.shape[1])
+    rows, columns = pixels.at
     right = columns - here(numpy.asarray(catalogue["XCEN"]) / 1000 - 1)
     down = rows - here(numpy.asarray(catalogue["YCEN"]) / 1000 - 1)
-    along = (right * here(numpy.cos(turned)) + down * here(numpy.sin(turned))) / here(long)
-    across = (down * here(numpy.cos(turned)) - right * here(numpy.sin(turned))) / here(short)
+    cosine, sine = here(numpy.cos(turned)), here(numpy.sin(turned))
+    along = (right * cosine + down * sine) / here(long)
+    across = (down * cosine - right * sine) / here(short)
     light = numpy.maximum(residual.ravel()[pixels.places], 0).astype("f8")
     with numpy.errstate(invalid="ignore"):
         mean = (pixels.summed(light * (along**2 + across**2)) / pixels.summed(light))[numbers]
@@ -342,10 +354,11 @@ class _Apertures:
         flux, error, told = self._sum(residual, err=noise, **alone)
         holed, near = numpy.zeros(len(flux), dtype=bool), holes.near(*self.places[:2], self.reach)
         if near.size:
-            unseen, area = (self._sum(image, near)[0] for image in holes.images)
-            with numpy.errstate(divide="ignore"):
+            unseen = self._sum(holes.images[0], near)[0]
+            unseen, near = unseen[unseen > 0], near[unseen > 0]
+            area = self._sum(holes.images[1], near)[0]
+            with numpy.errstate(divide="ignore", invalid="ignore"):
                 times = numpy.where(area > unseen, area / (area - unseen), numpy.nan)
-            times, near = times[unseen > 0], near[unseen > 0]
             flux[near], error[near], holed[near] = flux[near] * times, error[near] * numpy.sqrt(times), True
         if gain:
             error = numpy.sqrt(error**2 + numpy.maximum(flux, 0) / gain)

@@ -66,6 +66,14 @@ def grids(count, most):
         yield rng, grid
 
 
+def test_the_nearest_that_is_known_is_that_of_scipy():
+    for rng, grid in grids(300, 14):
+        known = rng.random(grid.shape) < rng.choice([0.05, 0.3, 0.7])
+        known.flat[rng.integers(known.size)] = True
+        wanted = ndimage.distance_transform_edt(~known, return_distances=False, return_indices=True)
+        assert (numpy.array(sky._nearest(known)) == wanted).all()
+
+
 def test_medians_are_those_of_scipy():
     for _, grid in grids(200, 9):
         assert (sky.medians(grid) == ndimage.median_filter(grid, size=3, mode="nearest")).all()

@@ -251,3 +251,15 @@ def test_sums_down_the_columns(shape):
     wanted = ndimage.correlate1d(image.astype("f8"), weights, 0, mode="constant")
     assert smoothing._down(image, weights) == pytest.approx(wanted, abs=1e-5)
     assert (smoothing._down(image[1:], weights)[7:-7] == smoothing._down(image, weights)[8:-7]).all()
+
+
+def test_weights_beside_few_undefined_pixels_are_those_of_many(monkeypatch):
+    rng = numpy.random.default_rng(4)
+    for shape in [(1, 1), (3, 50), (40, 300), (60, 1100)]:
+        image = rng.normal(0, 1, shape).astype("f4")
+        image[rng.random(shape) < 0.01] = numpy.nan
+        found = []
+        for few in (2, -1):
+            monkeypatch.setattr(smoothing, "FEW", few)
+            found.append(smoothing.smoothed(image, 2.6).tobytes())
+        assert found[0] == found[1]
