@@ -13,7 +13,7 @@ use Rattle.comp_tree.specs.Raster.{Raster, IsPlane, pixels, value_at, at_least, 
 use Rattle.comp_tree.specs.Windows.{Window, Box, IsInside, is_in_box, seen_through}
 use Rattle.comp_tree.proofs.Exported.{AlikeAbove, above_reached, below_from_defined, defined_from_at_least, reaches-is_IsReached, seen-length, seen-shape}
 use Rattle.mesh_background.specs.Mesh.{cells_along, cell_count, mesh_cell_of}
-use Rattle.mesh_background.specs.Residuals.{residual_of}
+use Rattle.mesh_background.specs.Residuals.{residual_with}
 use Rattle.mesh_background.specs.Windows.{HasDefinedCellsIn}
 use Rattle.mesh_background.proofs.Exported.{residual_shape}
 use Rattle.comp_tree.specs.Components.{tree_of}
@@ -124,21 +124,21 @@ own_from place shape width frame core rows found d seen width_is core_is window_
     picked : ℕ → Frame → Window → List CatRow → List CatRow
     picked n c w xs = filter (λ row. is_in_frame n c (first_pixel n row)) (map (moved_row w) xs)
 
-module _ (laws : MakingLaws) (order : Order) (choice : Choice) (place : TilePlace) (image k : Raster) (sure : Option Extent) (t : TileCatalogue)
+module _ (laws : MakingLaws) (order : Order) (empty : Option ℤ) (choice : Choice) (place : TilePlace) (image k : Raster) (sure : Option Extent) (t : TileCatalogue)
     (well : IsPlacedWell place image.shape order.mesh)
-    (sure_is : IfSome sure (λ box. IsSureExtent order.flat order.mesh image place box))
-    (k_is : k ≡ kept (residual_of image order.mesh order.flat) order.connect choice.threshold)
-    (same : HaveSameSources (residual_of image order.mesh order.flat) k order.connect choice)
+    (sure_is : IfSome sure (λ box. IsSureExtent empty order.flat order.mesh image place box))
+    (k_is : k ≡ kept (residual_with empty image order.mesh order.flat) order.connect choice.threshold)
+    (same : HaveSameSources (residual_with empty image order.mesh order.flat) k order.connect choice)
     (told : IsTold k order.connect choice place sure t)
     (r : Raster) (plane : IsPlane r) (shape : r.shape ≡ place.whole) (seen : seen_through (window_of_place place image.shape) r ≡ image) where
   abbrev d : DetectionChoice
-  d = detection_of order choice
+  d = detection_of order empty choice
 
   abbrev w : Window
   w = window_of_place place image.shape
 
   abbrev left : Raster
-  left = residual_of image order.mesh order.flat
+  left = residual_with empty image order.mesh order.flat
 
   -- the piece that the tile is
   abbrev piece : Piece
@@ -151,10 +151,10 @@ module _ (laws : MakingLaws) (order : Order) (choice : Choice) (place : TilePlac
   image_plane = subst IsPlane seen (seen-length w r ∙ sym (ap (λ (x : Shape). x.width * x.height) (seen-shape w r)))
 
   k_shape : k.shape ≡ image.shape
-  k_shape = ap (λ (x : Raster). x.shape) k_is ∙ shape-kept left order.connect choice.threshold ∙ residual_shape image order.mesh order.flat
+  k_shape = ap (λ (x : Raster). x.shape) k_is ∙ shape-kept left order.connect choice.threshold ∙ residual_shape empty image order.mesh order.flat
 
   left_shape : left.shape ≡ image.shape
-  left_shape = residual_shape image order.mesh order.flat
+  left_shape = residual_shape empty image order.mesh order.flat
 
   window_is : window_of t.window ≡ w
   window_is = ap window_of told.window ∙ ap (window_of_place place) k_shape
@@ -163,7 +163,7 @@ module _ (laws : MakingLaws) (order : Order) (choice : Choice) (place : TilePlac
   found_is = ap (detected d) (sym seen) ∙ ap (λ (v : Window). detected d (seen_through v r)) (sym window_is)
 
   -- a box of this kind is sure
-  box_sure : (box : Extent) → IsSureExtent order.flat order.mesh image place box → IsSureBox r w order.flat order.mesh (extent_box box)
+  box_sure : (box : Extent) → IsSureExtent empty order.flat order.mesh image place box → IsSureBox empty r w order.flat order.mesh (extent_box box)
   box_sure box is = by order.flat refl
     where
       at_whole : extent_box box ≡ clear_box order.flat order.mesh r.shape w
@@ -173,19 +173,19 @@ module _ (laws : MakingLaws) (order : Order) (choice : Choice) (place : TilePlac
       clear = subst (λ (b : Box). IsBoxWithin b (extent_box box)) at_whole
           (record { left = omega arith; right = omega arith; top = omega arith; bottom = omega arith })
 
-      by : (flat : Bool) → order.flat ≡ flat → IsSureBox r w order.flat order.mesh (extent_box box)
+      by : (flat : Bool) → order.flat ≡ flat → IsSureBox empty r w order.flat order.mesh (extent_box box)
       by true e =
-          subst (λ (f : Bool). IsSureBox r w f order.mesh (extent_box box)) (sym e)
-          (laws.flat r w order.mesh (extent_box box) well.on_mesh
+          subst (λ (f : Bool). IsSureBox empty r w f order.mesh (extent_box box)) (sym e)
+          (laws.flat empty r w order.mesh (extent_box box) well.on_mesh
           (subst (λ (f : Bool). IsBoxWithin (clear_box f order.mesh r.shape w) (extent_box box)) e clear))
       by false e = record {
         clear = clear;
-        defined = λ q some in_box defined.
+        defined = λ none q some in_box defined.
             full_cells (seen_through w r) w order.flat order.mesh q (seen-shape w r)
-            (subst (λ (s : Raster). HasNoEmptyCell s order.mesh) (sym seen) (is.full e some));
+            (subst (λ (s : Raster). HasNoEmptyCell s order.mesh) (sym seen) (is.full none e some));
       }
 
-  answers_by : (extent : Extent) → IsSureExtent order.flat order.mesh image place extent
+  answers_by : (extent : Extent) → IsSureExtent empty order.flat order.mesh image place extent
       → IsBoxWithin (extent_box extent) (window_box (window_of place.core)) → KnowsItsCore left order.connect choice.threshold place.whole w
       (window_box (window_of place.core)) (extent_box extent)
       → AnswersForCore d r piece
@@ -218,13 +218,13 @@ module _ (laws : MakingLaws) (order : Order) (choice : Choice) (place : TilePlac
       known : IsKnown k order.connect choice place sure
       known = told.known none
 
-      sure_at : (o : Option Extent) → o ≡ Some known.extent → IfSome o (λ box. IsSureExtent order.flat order.mesh image place box)
-          → IsSureExtent order.flat order.mesh image place known.extent
+      sure_at : (o : Option Extent) → o ≡ Some known.extent → IfSome o (λ box. IsSureExtent empty order.flat order.mesh image place box)
+          → IsSureExtent empty order.flat order.mesh image place known.extent
       sure_at None e h = absurd cc
-      sure_at (Some x) e h = subst (λ (y : Extent). IsSureExtent order.flat order.mesh image place y) (same_Some x known.extent e) h
+      sure_at (Some x) e h = subst (λ (y : Extent). IsSureExtent empty order.flat order.mesh image place y) (same_Some x known.extent e) h
 
       k_plane : IsPlane k
-      k_plane = subst IsPlane (sym k_is) (laws.kept left order.connect choice.threshold (laws.residual image order.mesh order.flat image_plane))
+      k_plane = subst IsPlane (sym k_is) (laws.kept left order.connect choice.threshold (laws.residual empty image order.mesh order.flat image_plane))
 
   piece_is : piece ≡ piece_of r.shape.width t
   piece_is =
@@ -253,11 +253,11 @@ left_alike threshold place (Some sure) connect r s one other alike =
     ap (λ (boxes : List Extent). cond (holds_box (extent_box sure) (core_box place)) boxes (box_extent (core_box place) ∷ []))
     (open_alike r s connect threshold place.left place.top place.whole (core_box place) (extent_box sure) one other alike)
 
-pub tile_of_window : (order : Order) (choice : Choice) (place : TilePlace) (image k : Raster) (sure : Option Extent) (t : TileCatalogue)
-    → sure ≡ sure_extent_of order.flat order.mesh place image → k ≡ kept (residual_of image order.mesh order.flat) order.connect choice.threshold
-    → HaveSameSources (residual_of image order.mesh order.flat) k order.connect choice → IsTold k order.connect choice place sure t
-    → IsTileOfWindow order choice place image t
-tile_of_window order choice place image k sure t sure_is k_is same told = record {
+pub tile_of_window : (order : Order) (empty : Option ℤ) (choice : Choice) (place : TilePlace) (image k : Raster) (sure : Option Extent) (t : TileCatalogue)
+    → sure ≡ sure_extent_of empty order.flat order.mesh place image → k ≡ kept (residual_with empty image order.mesh order.flat) order.connect choice.threshold
+    → HaveSameSources (residual_with empty image order.mesh order.flat) k order.connect choice → IsTold k order.connect choice place sure t
+    → IsTileOfWindow order empty choice place image t
+tile_of_window order empty choice place image k sure t sure_is k_is same told = record {
   whole = told.whole;
   window = told.window ∙ ap (frame_at place.left place.top) k_shape;
   core = told.core;
@@ -267,17 +267,17 @@ tile_of_window order choice place image k sure t sure_is k_is same told = record
   «open» =
       told.open
       ∙ ap (λ (o : Option Extent). left_open choice.threshold place o (tree_of k order.connect).rows (sums_in k order.connect)) sure_is
-      ∙ sym (left_alike choice.threshold place (sure_extent_of order.flat order.mesh place image) order.connect left k left_plane told.plane alike);
+      ∙ sym (left_alike choice.threshold place (sure_extent_of empty order.flat order.mesh place image) order.connect left k left_plane told.plane alike);
 }
   where
     left : Raster
-    left = residual_of image order.mesh order.flat
+    left = residual_with empty image order.mesh order.flat
 
     k_left : k.shape ≡ left.shape
-    k_left = ap (λ (x : Raster). x.shape) k_is ∙ shape-kept (residual_of image order.mesh order.flat) order.connect choice.threshold
+    k_left = ap (λ (x : Raster). x.shape) k_is ∙ shape-kept (residual_with empty image order.mesh order.flat) order.connect choice.threshold
 
     k_shape : k.shape ≡ image.shape
-    k_shape = k_left ∙ residual_shape image order.mesh order.flat
+    k_shape = k_left ∙ residual_shape empty image order.mesh order.flat
 
     alike : AlikeAbove left k choice.threshold
     alike = subst (λ (x : Raster). AlikeAbove left x choice.threshold) (sym k_is) (alike_kept left order.connect choice.threshold)
