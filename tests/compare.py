@@ -21,7 +21,7 @@ import time
 import model
 from model.headers import Image
 from model.programs import card, detection_bytes, hdu_bytes, to_block
-from model.sources import COLUMNS, MEASURES
+from model.sources import COLUMNS, MEASURES, image_median
 
 SECONDS = 30
 LISTED = ["list", "brightest", "1000"]
@@ -310,10 +310,17 @@ def random_tiles(rng, width, height, mesh):
 
 
 def tile_runs(rng, program, folder):
-    """Runs of maxwide over the tiles of an image, one that joins them, and the whole where this gives an answer."""
+    """Runs of maxwide over the tiles of an image, one that joins them, and the whole where this gives an answer. Half of
+    them give the image's median for the mesh's cells without a value, and now and then another number, which the whole
+    isn't compared with.
+    """
     width, height, mesh = rng.randint(1, 12), rng.randint(1, 9), rng.choice([0, 0, 0, 1, 2, 3])
     few = rng.choice([2, 3, 6, 40])
-    values = [None if rng.random() < 0.05 else rng.randrange(few) - few // 3 for _ in range(width * height)]
+    gaps = rng.choice([0.05, 0.05, 0.5])
+    values = [None if rng.random() < gaps else rng.randrange(few) - few // 3 for _ in range(width * height)]
+    median = image_median(Image(width, values))
+    number = rng.choice([None, None, median, median, median, rng.choice([-few, few, -(2**29), 2**29, 2**29 + 1])])
+    empty = [] if number is None else ["--empty-cells", str(number)]
     options = dict(option_words(rng, "detect"), **{"--hdu": "0", "--mesh": str(mesh)})
     options["--threshold"] = str(rng.randint(1, few))
     detect = ["detect", *(word for pair in options.items() for word in pair)]
@@ -321,7 +328,7 @@ def tile_runs(rng, program, folder):
     for window, core in random_tiles(rng, width, height, mesh):
         left, top, columns, rows = window
         places = ["--whole", width, height, "--window", *window, "--core", *core]
-        words = ["tile", *map(str, places), *detect]
+        words = ["tile", *map(str, places), *empty, *detect]
         words = damaged_words(rng, words) if rng.random() < 0.05 else words
         seen = [values[y * width + x] for y in range(top, top + rows) for x in range(left, left + columns)]
         data = plain_image(columns, seen)
@@ -331,7 +338,7 @@ def tile_runs(rng, program, folder):
     data = damaged(rng, data) if data and rng.random() < 0.15 else data
     joined = run(program, ["join"], data, folder)
     yield ["join"], data, model.wide_answer(["join"], data), joined
-    if joined.status == 0:
+    if joined.status == 0 and number in (None, median):
         data = plain_image(width, values)
         found = run(program, detect, data, folder)
         yield detect, data, model.Answer(0, joined.output, "", found.taken), found

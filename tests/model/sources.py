@@ -18,14 +18,21 @@ def lower_median(numbers: List[int]) -> int:
     return sorted(numbers)[(len(numbers) - 1) // 2]
 
 
-def cell_levels(image: Image, mesh: int) -> Dict[Tuple[int, int], int]:
-    """The lower median of each cell of the mesh, or of the whole image where the cell has no value, or 0."""
+def image_median(image: Image) -> int:
+    """The lower median of all values, or 0."""
+    return lower_median([value for value in image.values if value is not None] or [0])
+
+
+def cell_levels(image: Image, mesh: int, empty: Optional[int] = None) -> Dict[Tuple[int, int], int]:
+    """The lower median of each cell of the mesh, or where the cell has no value, the given number, or else the whole
+    image's median.
+    """
     cells: Dict[Tuple[int, int], List[int]] = {}
     for pixel, value in enumerate(image.values):
         row, column = divmod(pixel, image.width)
         cells.setdefault((column // mesh, row // mesh), []).extend([] if value is None else [value])
-    known = [value for value in image.values if value is not None]
-    return {cell: lower_median(numbers or known or [0]) for cell, numbers in cells.items()}
+    other = image_median(image) if empty is None else empty
+    return {cell: lower_median(numbers or [other]) for cell, numbers in cells.items()}
 
 
 def smooth_level(levels: Dict[Tuple[int, int], int], mesh: int, column: int, row: int) -> int:
@@ -45,11 +52,11 @@ def smooth_level(levels: Dict[Tuple[int, int], int], mesh: int, column: int, row
     return total // (4 * mesh * mesh)
 
 
-def residual(image: Image, mesh: int, flat: bool) -> Image:
-    """The image less its background."""
+def residual(image: Image, mesh: int, flat: bool, empty: Optional[int] = None) -> Image:
+    """The image less its background; a number may be given for the cells of the mesh without a value."""
     if mesh == 0:
         return image
-    levels, values = cell_levels(image, mesh), []
+    levels, values = cell_levels(image, mesh, empty), []
     for pixel, value in enumerate(image.values):
         row, column = divmod(pixel, image.width)
         level = levels[column // mesh, row // mesh] if flat else smooth_level(levels, mesh, column, row)

@@ -47,7 +47,8 @@ class Tile(NamedTuple):
 # ---- words
 
 PLACE = "tile --whole W H --window X Y W H --core X Y W H".split()
-FIRST_OF_DETECT = len(PLACE)
+NUMBER_OF_EMPTY = "--empty-cells"
+MOST_NUMBER = 2**29
 
 
 def read_place(words: List[str]) -> Tuple[Box, Box, Box]:
@@ -70,19 +71,33 @@ def read_place(words: List[str]) -> Tuple[Box, Box, Box]:
     return whole, window, core
 
 
-def read_tile_order(words: List[str]) -> Tuple[Tuple[Box, Box, Box], Dict[str, Union[None, int, str]]]:
-    """Where the tile lies, and the options of `detect`."""
-    whole, window, core = read_place(words)
+def read_number(words: List[str]) -> Tuple[Optional[int], int]:
+    """The number of the mesh's cells without a value, if the word behind the place gives one, and how many words stand
+    in front of the order.
+    """
+    front = len(PLACE)
+    if words[front : front + 1] != [NUMBER_OF_EMPTY]:
+        return None, front
     try:
-        order = read_order(words[FIRST_OF_DETECT:], WIDE_PIXELS)
+        return whole_word(words[front + 1], -MOST_NUMBER, MOST_NUMBER), front + 2
+    except (IndexError, ValueError):
+        raise WordAtFault(front + 2) from None
+
+
+def read_tile_order(words: List[str]) -> Tuple[Tuple[Box, Box, Box], Dict[str, Union[None, int, str]]]:
+    """Where the tile lies, and the options of `detect`, with the number of empty cells."""
+    whole, window, core = read_place(words)
+    empty, front = read_number(words)
+    try:
+        order = read_order(words[front:], WIDE_PIXELS)
     except WordAtFault as error:
-        raise WordAtFault(FIRST_OF_DETECT + error.word) from None
+        raise WordAtFault(front + error.word) from None
     if order["command"] != "detect":
-        raise WordAtFault(FIRST_OF_DETECT + 1)
+        raise WordAtFault(front + 1)
     is_on_mesh = order["mesh"] == 0 or window.left % order["mesh"] == 0 == window.top % order["mesh"]
     if not is_on_mesh or not whole.holds(window) or not window.holds(core):
         raise WordAtFault(PLACE.index("--window") + 1)
-    return (whole, window, core), order
+    return (whole, window, core), dict(order, empty=empty)
 
 
 # ---- a tile
@@ -102,7 +117,7 @@ def sure_side(flat: bool, mesh: int, side: int, first: int, end: int) -> Tuple[i
 def sure_box(image: Image, order, whole: Box, window: Box) -> Optional[Box]:
     """The box of the image in which the window's background is the image's, if that can be known."""
     mesh, flat = order["mesh"], bool(order["flat"])
-    if mesh and not flat:
+    if mesh and not flat and order["empty"] is None:
         cells = {
             (pixel % image.width // mesh, pixel // image.width // mesh): False for pixel in range(len(image.values))
         }
@@ -157,7 +172,7 @@ def first_of(row: Tuple[int, ...]) -> Tuple[int, int]:
 
 def tile_of(image: Image, order, places: Tuple[Box, Box, Box]) -> Tile:
     whole, window, core = places
-    plane = residual(image, order["mesh"], bool(order["flat"]))
+    plane = residual(image, order["mesh"], bool(order["flat"]), order["empty"])
     nodes = nodes_of(plane, order["connect"])
     sources = sources_of(nodes, Choice(order["threshold"], order["min-area"], order["min-flux"], order["contrast"]))
     rows = [moved(row_of(plane, number, source), window) for number, source in enumerate(sources, 1)]

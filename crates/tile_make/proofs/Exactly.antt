@@ -19,7 +19,7 @@ use Rattle.tile_make.specs.TileOf.{has_full_mesh, sure_extent_of, core_box, left
 -- ---- the sure box
 
 module _ (flat : Bool) (mesh : ℕ) (place : TilePlace) (image : Raster) where
-  pub no_sure : flat ≡ false → 0 < mesh → has_full_mesh image mesh ≡ false → None ≡ sure_extent_of flat mesh place image
+  pub no_sure : flat ≡ false → 0 < mesh → has_full_mesh image mesh ≡ false → None ≡ sure_extent_of None flat mesh place image
   unfolding sure_extent_of
   no_sure smooth some gap =
       sym (cond-false (flat || (mesh == 0) || has_full_mesh image mesh)
@@ -28,7 +28,7 @@ module _ (flat : Bool) (mesh : ℕ) (place : TilePlace) (image : Raster) where
       (or_from flat (mesh == 0) smooth (ne_eqb mesh 0 (λ e. absurd (omega (arith, some, e))))) gap))
 
   pub one_sure : (sure : Extent) → extent_box sure ≡ clear_box flat mesh place.whole (window_of_place place image.shape)
-      → (flat || (mesh == 0) || has_full_mesh image mesh) ≡ true → Some sure ≡ sure_extent_of flat mesh place image
+      → (flat || (mesh == 0) || has_full_mesh image mesh) ≡ true → Some sure ≡ sure_extent_of None flat mesh place image
   unfolding sure_extent_of
   one_sure sure box known =
       ap (λ (b : Box). Some (box_extent b)) box
@@ -43,6 +43,12 @@ module _ (flat : Bool) (mesh : ℕ) (place : TilePlace) (image : Raster) where
 
   pub full_known : has_full_mesh image mesh ≡ true → (flat || (mesh == 0) || has_full_mesh image mesh) ≡ true
   full_known e = or_right (flat || (mesh == 0)) (has_full_mesh image mesh) e
+
+-- where a number is given it is the clear box
+pub sure_with_number : (number : ℤ) (flat : Bool) (mesh : ℕ) (place : TilePlace) (image : Raster) (sure : Extent)
+    → extent_box sure ≡ clear_box flat mesh place.whole (window_of_place place image.shape) → Some sure ≡ sure_extent_of (Some number) flat mesh place image
+unfolding sure_extent_of
+sure_with_number number flat mesh place image sure box = ap (λ (b : Box). Some (box_extent b)) box
 
 -- ---- the open boxes
 

@@ -15,7 +15,7 @@ use Rattle.comp_tree.specs.declared.tree.NodeRow.{NodeRow}
 use Rattle.comp_tree.specs.Windows.{Window, Box, IsInside, in_whole, is_in_box, seen_through}
 use Rattle.comp_tree.proofs.Exported.{AlikeAbove, below_from_defined, defined_from_at_least, seen-length, seen-shape}
 use Rattle.mesh_background.specs.Mesh.{cells_along, cell_count, mesh_cell_of}
-use Rattle.mesh_background.specs.Residuals.{residual_of}
+use Rattle.mesh_background.specs.Residuals.{residual_with}
 use Rattle.mesh_background.specs.Windows.{HasDefinedCellsIn}
 use Rattle.mesh_background.proofs.Exported.{residual_shape}
 use Rattle.comp_tree.specs.Components.{tree_of}
@@ -130,21 +130,21 @@ left_open-none : (threshold : ℤ) (place : TilePlace) (rows : List NodeRow) (su
 unfolding left_open
 left_open-none threshold place rows sums = refl
 
-module _ (laws : MakingLaws) (order : Order) (choice : Choice) (place : TilePlace) (image k : Raster) (sure : Option Extent) (t : TileCatalogue)
+module _ (laws : MakingLaws) (order : Order) (empty : Option ℤ) (choice : Choice) (place : TilePlace) (image k : Raster) (sure : Option Extent) (t : TileCatalogue)
     (well : IsPlacedWell place image.shape order.mesh)
-    (sure_is : IfSome sure (λ box. IsSureExtent order.flat order.mesh image place box))
-    (k_is : k ≡ kept (residual_of image order.mesh order.flat) order.connect choice.threshold)
-    (same : HaveSameSources (residual_of image order.mesh order.flat) k order.connect choice)
+    (sure_is : IfSome sure (λ box. IsSureExtent empty order.flat order.mesh image place box))
+    (k_is : k ≡ kept (residual_with empty image order.mesh order.flat) order.connect choice.threshold)
+    (same : HaveSameSources (residual_with empty image order.mesh order.flat) k order.connect choice)
     (told : IsTold k order.connect choice place sure t)
     (r : Raster) (plane : IsPlane r) (shape : r.shape ≡ place.whole) (seen : seen_through (window_of_place place image.shape) r ≡ image) where
   abbrev d : DetectionChoice
-  d = detection_of order choice
+  d = detection_of order empty choice
 
   abbrev w : Window
   w = window_of_place place image.shape
 
   abbrev left : Raster
-  left = residual_of image order.mesh order.flat
+  left = residual_with empty image order.mesh order.flat
 
   inside : IsInside r.shape w
   inside = subst (λ (s : Shape). IsInside s w) (sym shape) well.inside
@@ -153,10 +153,10 @@ module _ (laws : MakingLaws) (order : Order) (choice : Choice) (place : TilePlac
   image_plane = subst IsPlane seen (seen-length w r ∙ sym (ap (λ (x : Shape). x.width * x.height) (seen-shape w r)))
 
   k_shape : k.shape ≡ image.shape
-  k_shape = ap (λ (x : Raster). x.shape) k_is ∙ shape-kept left order.connect choice.threshold ∙ residual_shape image order.mesh order.flat
+  k_shape = ap (λ (x : Raster). x.shape) k_is ∙ shape-kept left order.connect choice.threshold ∙ residual_shape empty image order.mesh order.flat
 
   left_shape : left.shape ≡ image.shape
-  left_shape = residual_shape image order.mesh order.flat
+  left_shape = residual_shape empty image order.mesh order.flat
 
   window_is : window_of t.window ≡ w
   window_is = ap window_of told.window ∙ ap (window_of_place place) k_shape
@@ -165,7 +165,7 @@ module _ (laws : MakingLaws) (order : Order) (choice : Choice) (place : TilePlac
   found_is = ap (detected d) (sym seen) ∙ ap (λ (v : Window). detected d (seen_through v r)) (sym window_is)
 
   -- a box of this kind is sure
-  box_sure : (box : Extent) → IsSureExtent order.flat order.mesh image place box → IsSureBox r w order.flat order.mesh (extent_box box)
+  box_sure : (box : Extent) → IsSureExtent empty order.flat order.mesh image place box → IsSureBox empty r w order.flat order.mesh (extent_box box)
   box_sure box is = by order.flat refl
     where
       at_whole : extent_box box ≡ clear_box order.flat order.mesh r.shape w
@@ -175,16 +175,16 @@ module _ (laws : MakingLaws) (order : Order) (choice : Choice) (place : TilePlac
       clear = subst (λ (b : Box). IsBoxWithin b (extent_box box)) at_whole
           (record { left = omega arith; right = omega arith; top = omega arith; bottom = omega arith })
 
-      by : (flat : Bool) → order.flat ≡ flat → IsSureBox r w order.flat order.mesh (extent_box box)
+      by : (flat : Bool) → order.flat ≡ flat → IsSureBox empty r w order.flat order.mesh (extent_box box)
       by true e =
-          subst (λ (f : Bool). IsSureBox r w f order.mesh (extent_box box)) (sym e)
-          (laws.flat r w order.mesh (extent_box box) well.on_mesh
+          subst (λ (f : Bool). IsSureBox empty r w f order.mesh (extent_box box)) (sym e)
+          (laws.flat empty r w order.mesh (extent_box box) well.on_mesh
           (subst (λ (f : Bool). IsBoxWithin (clear_box f order.mesh r.shape w) (extent_box box)) e clear))
       by false e = record {
         clear = clear;
-        defined = λ q some in_box defined.
+        defined = λ none q some in_box defined.
             full_cells (seen_through w r) w order.flat order.mesh q (seen-shape w r)
-            (subst (λ (s : Raster). HasNoEmptyCell s order.mesh) (sym seen) (is.full e some));
+            (subst (λ (s : Raster). HasNoEmptyCell s order.mesh) (sym seen) (is.full none e some));
       }
 
   abbrev known : ℕ → Bool
@@ -196,7 +196,7 @@ module _ (laws : MakingLaws) (order : Order) (choice : Choice) (place : TilePlac
       (subst (λ (x : Raster). AlikeAbove left x choice.threshold) (sym k_is) (alike_kept left order.connect choice.threshold)))
     where
       left_plane : IsPlane left
-      left_plane = laws.residual image order.mesh order.flat image_plane
+      left_plane = laws.residual empty image order.mesh order.flat image_plane
 
   in_core : (p : ℕ) → IsTrue (known p) → IsTrue (is_in_box r.shape.width (core_box place) p)
   unfolding is_known_of
@@ -233,7 +233,7 @@ module _ (laws : MakingLaws) (order : Order) (choice : Choice) (place : TilePlac
   }
 
   -- with a box in which the background is the image's
-  answers_by : (extent : Extent) → IsSureExtent order.flat order.mesh image place extent
+  answers_by : (extent : Extent) → IsSureExtent empty order.flat order.mesh image place extent
       → t.open.items ≡ left_open choice.threshold place (Some extent) (tree_of left order.connect).rows (sums_in left order.connect)
       → AnswersForCore d r known_piece
   unfolding left_open
@@ -265,7 +265,7 @@ module _ (laws : MakingLaws) (order : Order) (choice : Choice) (place : TilePlac
   answers_known : AnswersForCore d r known_piece
   answers_known = by sure refl sure_is
     where
-      by : (o : Option Extent) → sure ≡ o → IfSome o (λ box. IsSureExtent order.flat order.mesh image place box) → AnswersForCore d r known_piece
+      by : (o : Option Extent) → sure ≡ o → IfSome o (λ box. IsSureExtent empty order.flat order.mesh image place box) → AnswersForCore d r known_piece
       by None e h = nothing_known (none_known (open_is
           ∙ ap (λ (x : Option Extent). left_open choice.threshold place x (tree_of left order.connect).rows (sums_in left order.connect)) e
           ∙ left_open-none choice.threshold place (tree_of left order.connect).rows (sums_in left order.connect)))
@@ -289,11 +289,11 @@ module _ (laws : MakingLaws) (order : Order) (choice : Choice) (place : TilePlac
 
 -- ---- the tile, told to the last number
 
-pub tile_of_window : (order : Order) (choice : Choice) (place : TilePlace) (image k : Raster) (sure : Option Extent) (t : TileCatalogue)
-    → sure ≡ sure_extent_of order.flat order.mesh place image → k ≡ kept (residual_of image order.mesh order.flat) order.connect choice.threshold
-    → HaveSameSources (residual_of image order.mesh order.flat) k order.connect choice → IsTold k order.connect choice place sure t
-    → IsTileOfWindow order choice place image t
-tile_of_window order choice place image k sure t sure_is k_is same told = record {
+pub tile_of_window : (order : Order) (empty : Option ℤ) (choice : Choice) (place : TilePlace) (image k : Raster) (sure : Option Extent) (t : TileCatalogue)
+    → sure ≡ sure_extent_of empty order.flat order.mesh place image → k ≡ kept (residual_with empty image order.mesh order.flat) order.connect choice.threshold
+    → HaveSameSources (residual_with empty image order.mesh order.flat) k order.connect choice → IsTold k order.connect choice place sure t
+    → IsTileOfWindow order empty choice place image t
+tile_of_window order empty choice place image k sure t sure_is k_is same told = record {
   whole = told.whole;
   window = told.window ∙ ap (frame_at place.left place.top) k_shape;
   core = told.core;
@@ -303,17 +303,17 @@ tile_of_window order choice place image k sure t sure_is k_is same told = record
   «open» =
       told.open
       ∙ ap (λ (o : Option Extent). left_open choice.threshold place o (tree_of k order.connect).rows (sums_in k order.connect)) sure_is
-      ∙ sym (left_alike choice.threshold place (sure_extent_of order.flat order.mesh place image) order.connect left k left_plane told.plane alike);
+      ∙ sym (left_alike choice.threshold place (sure_extent_of empty order.flat order.mesh place image) order.connect left k left_plane told.plane alike);
 }
   where
     left : Raster
-    left = residual_of image order.mesh order.flat
+    left = residual_with empty image order.mesh order.flat
 
     k_left : k.shape ≡ left.shape
-    k_left = ap (λ (x : Raster). x.shape) k_is ∙ shape-kept (residual_of image order.mesh order.flat) order.connect choice.threshold
+    k_left = ap (λ (x : Raster). x.shape) k_is ∙ shape-kept (residual_with empty image order.mesh order.flat) order.connect choice.threshold
 
     k_shape : k.shape ≡ image.shape
-    k_shape = k_left ∙ residual_shape image order.mesh order.flat
+    k_shape = k_left ∙ residual_shape empty image order.mesh order.flat
 
     alike : AlikeAbove left k choice.threshold
     alike = subst (λ (x : Raster). AlikeAbove left x choice.threshold) (sym k_is) (alike_kept left order.connect choice.threshold)

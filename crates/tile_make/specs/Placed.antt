@@ -1,5 +1,5 @@
 -- Model: where a tile lies in an image, and what is asked of it.
-use Rattle.std.specs.Prelude.{ℕ, ◌+◌, ◌%◌, ◌&&◌, ◌||◌, ◌==◌, nat_le, Bool}
+use Rattle.std.specs.Prelude.{ℕ, ◌+◌, ◌%◌, ◌&&◌, ◌||◌, ◌==◌, nat_le, Bool, ℤ, Option}
 use Rattle.comp_tree.specs.declared.shape.Shape.{Shape}
 use Rattle.comp_tree.specs.Windows.{Window}
 use Rattle.source_pick.specs.declared.choice.Choice.{Choice}
@@ -28,6 +28,12 @@ is_tile_place place shape mesh =
     && (lies_along place.left shape.width place.core.left place.core.shape.width place.whole.width
     && lies_along place.top shape.height place.core.top place.core.shape.height place.whole.height)
 
--- what an order that detects asks
-abbrev pub detection_of : Order → Choice → DetectionChoice
-detection_of order choice = record { mesh = order.mesh; flat = order.flat; connect = order.connect; choice = choice }
+-- what an order that detects asks, where a number may be given for the mesh's cells without a value
+abbrev pub detection_of : Order → Option ℤ → Choice → DetectionChoice
+detection_of order empty choice = record {
+  mesh = order.mesh;
+  flat = order.flat;
+  empty = empty;
+  connect = order.connect;
+  choice = choice;
+}

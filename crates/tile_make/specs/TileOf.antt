@@ -8,7 +8,7 @@ use Rattle.comp_tree.specs.Raster.{Raster, is_defined}
 use Rattle.comp_tree.specs.Components.{tree_of}
 use Rattle.comp_tree.specs.Windows.{Box}
 use Rattle.mesh_background.specs.Mesh.{cell_count, cell_pixels}
-use Rattle.mesh_background.specs.Residuals.{residual_of}
+use Rattle.mesh_background.specs.Residuals.{residual_with}
 use Rattle.node_sums.specs.declared.entry.Sums.{Sums}
 use Rattle.node_sums.specs.Sums.{sums_in}
 use Rattle.source_pick.specs.declared.choice.Choice.{Choice}
@@ -40,10 +40,11 @@ own_of place shape rows =
 unfoldable pub has_full_mesh : Raster → ℕ → Bool
 has_full_mesh s mesh = list_all (λ k. list_any (is_defined s) (cell_pixels s mesh k)) (range_with_len 0 (cell_count mesh s.shape))
 
--- the box in which the background of a window's image is that of the whole. It can't be known where the background is smooth and a cell of the mesh
--- has no defined pixel
-unfoldable pub sure_extent_of : Bool → ℕ → TilePlace → Raster → Option Extent
-sure_extent_of flat mesh place image =
+-- the box in which the background of a window's image is that of the whole. It can't be known where the background is smooth, a cell of the mesh
+-- has no defined pixel, and no number is given for such cells
+unfoldable pub sure_extent_of : Option ℤ → Bool → ℕ → TilePlace → Raster → Option Extent
+sure_extent_of (Some number) flat mesh place image = Some (box_extent (clear_box flat mesh place.whole (window_of_place place image.shape)))
+sure_extent_of None flat mesh place image =
     if flat || (mesh == 0) || has_full_mesh image mesh
     then Some (box_extent (clear_box flat mesh place.whole (window_of_place place image.shape))) else None
 
@@ -59,10 +60,10 @@ left_open threshold place (Some sure) rows sums =
     then open_extents threshold rows sums place.left place.top place.whole (core_box place) (extent_box sure) else box_extent (core_box place) ∷ []
 
 -- those of a tile: of the components of what is left of the window's image without its background
-abbrev pub open_of_tile : Order → Choice → TilePlace → Raster → List Extent
-open_of_tile order choice place image =
-    left_open choice.threshold place (sure_extent_of order.flat order.mesh place image)
-    (tree_of (residual_of image order.mesh order.flat) order.connect).rows (sums_in (residual_of image order.mesh order.flat) order.connect)
+abbrev pub open_of_tile : Order → Option ℤ → Choice → TilePlace → Raster → List Extent
+open_of_tile order empty choice place image =
+    left_open choice.threshold place (sure_extent_of empty order.flat order.mesh place image)
+    (tree_of (residual_with empty image order.mesh order.flat) order.connect).rows (sums_in (residual_with empty image order.mesh order.flat) order.connect)
 
 -- ---- the tile
 
@@ -70,14 +71,14 @@ open_of_tile order choice place image =
 abbrev pub frame_at : ℕ → ℕ → Shape → Frame
 frame_at left top shape = record { left = left; top = top; shape = shape }
 
--- the tile is what the image of a window with this place gives
-pub record IsTileOfWindow (order : Order) (choice : Choice) (place : TilePlace) (image : Raster) (t : TileCatalogue) : Type 0 where
+-- the tile is what the image of a window with this place gives, where a number may be given for the mesh's cells without a value
+pub record IsTileOfWindow (order : Order) (empty : Option ℤ) (choice : Choice) (place : TilePlace) (image : Raster) (t : TileCatalogue) : Type 0 where
   pub whole : t.whole ≡ place.whole
   pub window : t.window ≡ frame_at place.left place.top image.shape
   pub core : t.core ≡ place.core
-  pub rows : t.rows.items ≡ own_of place image.shape (catalogue (residual_of image order.mesh order.flat) order.connect choice)
-  pub map : t.map.items ≡ segmentation (residual_of image order.mesh order.flat) order.connect choice
-  pub «open» : t.open.items ≡ open_of_tile order choice place image
+  pub rows : t.rows.items ≡ own_of place image.shape (catalogue (residual_with empty image order.mesh order.flat) order.connect choice)
+  pub map : t.map.items ≡ segmentation (residual_with empty image order.mesh order.flat) order.connect choice
+  pub «open» : t.open.items ≡ open_of_tile order empty choice place image
 
 -- ---- what a file has room for
 

@@ -1,5 +1,5 @@
 -- Bookkeeping: what is known on the way to a tile.
-use Rattle.std.specs.Prelude.{◌≡◌, ℕ, ◌<◌, Bool, true, false, IsTrue, slice_index_or, List, [], length, Option, Some, pos, ◌≤ℤ◌, FitsSigned}
+use Rattle.std.specs.Prelude.{◌≡◌, ℕ, ◌<◌, Bool, true, false, IsTrue, slice_index_or, List, [], length, ℤ, Option, Some, None, pos, ◌≤ℤ◌, FitsSigned}
 use Rattle.std.specs.Int.{w64}
 use Rattle.std.specs.List.{All}
 use Rattle.comp_tree.specs.declared.shape.Shape.{Shape}
@@ -50,9 +50,9 @@ abbrev pub HasNoEmptyCell : Raster → ℕ → Type 0
 HasNoEmptyCell s mesh = (k : ℕ) → k < cell_count mesh s.shape → (b : ℕ) × IsTrue (is_defined s b) × (mesh_cell_of mesh s.shape.width b ≡ k)
 
 -- the box in which a window's background is the image's
-pub record IsSureExtent (flat : Bool) (mesh : ℕ) (s : Raster) (place : TilePlace) (sure : Extent) : Type 0 where
+pub record IsSureExtent (empty : Option ℤ) (flat : Bool) (mesh : ℕ) (s : Raster) (place : TilePlace) (sure : Extent) : Type 0 where
   pub box : extent_box sure ≡ clear_box flat mesh place.whole (window_of_place place s.shape)
-  pub full : flat ≡ false → 0 < mesh → HasNoEmptyCell s mesh
+  pub full : empty ≡ None → flat ≡ false → 0 < mesh → HasNoEmptyCell s mesh
 
 -- the tile tells what was found in plane k
 pub record IsTold (k : Raster) (connect : Connect) (choice : Choice) (place : TilePlace) (sure : Option Extent) (t : TileCatalogue) : Type 0 where

@@ -1,10 +1,12 @@
 //! The box of an image in which a window's background is the image's own.
 
-ghost use Rattle.std.specs.Prelude.{◌≡◌, ◌+◌, ◌≤◌, ◌<◌, ◌*◌, IfOk, IfSome, IsTrue, length};
+ghost use Rattle.std.specs.Prelude.{◌≡◌, ◌+◌, ◌≤◌, ◌<◌, ◌*◌, None, IfOk, IfSome, IsTrue, length};
 ghost use Rattle.std.specs.List.{list_all};
 ghost use Rattle.comp_tree.specs.Windows.{IsInside};
 ghost use Rattle.mesh_background.specs.Mesh.{cell_count, cells_along, mesh_cell_of};
 ghost use Rattle.orders.specs.Words.{HasLimits};
+ghost use Rattle.tile_laws.specs.Clear.{clear_box};
+ghost use Rattle.tile_laws.specs.Extents.{extent_box};
 ghost use Rattle.tile_make.specs.Placed.{window_of_place};
 ghost use Rattle.tile_make.specs.TileOf.{has_full_mesh as is_full, sure_extent_of};
 ghost use Rattle.tile_make.specs.Told.{AreMarkedCells, HasNoEmptyCell, IsSureExtent};
@@ -16,9 +18,44 @@ use orders::Order;
 use std::alloc::Global;
 use tile_laws::{Extent, clear_extent};
 
-// The box, or `None` where the background can't be known: it is smooth, and a cell of the window has no pixel with a value. The number of such a
-// cell is that of the whole image.
+// The box, or `None` where the background can't be known: it is smooth, a cell of the window has no pixel with a value, and no number is given
+// for such cells. It is that of the whole image.
 pub(crate) fn sure_extent(
+    alloc: Global,
+    image: &Plane,
+    order: &Order,
+    empty: Option<i64>,
+    place: &TilePlace,
+) -> Result<Option<Extent>, OutOfMemory>
+    requires limits { HasLimits order.now }
+    requires inside { IsInside place.now.whole (window_of_place place.now image.now.shape) }
+    ensures exact { IfOk result (λ found. found ≡ sure_extent_of empty order.now.flat order.now.mesh place.now image.now) }
+    ensures known { IfOk result (λ found. IfSome found (λ sure. IsSureExtent empty order.now.flat order.now.mesh image.now place.now sure)) }
+{
+    match empty {
+        Some(_) => Ok(Some(clear_part(image, order, place))),
+        None => extent_of_full_cells(alloc, image, order, place),
+    }
+}
+
+// The box in which the background depends on cells that lie whole in the window.
+fn clear_part(image: &Plane, order: &Order, place: &TilePlace) -> Extent
+    requires limits { HasLimits order.now }
+    requires inside { IsInside place.now.whole (window_of_place place.now image.now.shape) }
+    ensures { extent_box result ≡ clear_box order.now.flat order.now.mesh place.now.whole (window_of_place place.now image.now.shape) }
+{
+    clear_extent(
+        order.flat,
+        order.mesh,
+        place.whole,
+        place.left,
+        place.top,
+        image.shape(),
+    )
+}
+
+// The same, where no number is given.
+fn extent_of_full_cells(
     alloc: Global,
     image: &Plane,
     order: &Order,
@@ -26,20 +63,13 @@ pub(crate) fn sure_extent(
 ) -> Result<Option<Extent>, OutOfMemory>
     requires limits { HasLimits order.now }
     requires inside { IsInside place.now.whole (window_of_place place.now image.now.shape) }
-    ensures exact { IfOk result (λ found. found ≡ sure_extent_of order.now.flat order.now.mesh place.now image.now) }
-    ensures known { IfOk result (λ found. IfSome found (λ sure. IsSureExtent order.now.flat order.now.mesh image.now place.now sure)) }
+    ensures exact { IfOk result (λ found. found ≡ sure_extent_of None order.now.flat order.now.mesh place.now image.now) }
+    ensures known { IfOk result (λ found. IfSome found (λ sure. IsSureExtent None order.now.flat order.now.mesh image.now place.now sure)) }
 {
     if !order.flat && order.mesh > 0 && !has_full_mesh(alloc, image, order.mesh)? {
         return Ok(None);
     }
-    Ok(Some(clear_extent(
-        order.flat,
-        order.mesh,
-        place.whole,
-        place.left,
-        place.top,
-        image.shape(),
-    )))
+    Ok(Some(clear_part(image, order, place)))
 }
 
 // Whether each cell of the mesh has a pixel with a value.

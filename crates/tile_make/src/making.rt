@@ -1,9 +1,10 @@
 //! A tile from the image of its window.
 
-ghost use Rattle.std.specs.Prelude.{◌≡◌, ◌≤◌, false, Err, IfOk};
+ghost use Rattle.std.specs.Prelude.{◌≡◌, ◌≤◌, ◌^◌, false, Err, IfOk, IfSome};
+ghost use Rattle.comp_tree.specs.Limits.{IsWithin};
 ghost use Rattle.comp_tree.specs.Raster.{Raster, IsPlane, HasValuesInHalfRange};
 ghost use Rattle.comp_tree.specs.Windows.{seen_through};
-ghost use Rattle.mesh_background.specs.Residuals.{residual_of};
+ghost use Rattle.mesh_background.specs.Residuals.{residual_with};
 ghost use Rattle.orders.specs.Words.{HasLimits};
 ghost use Rattle.source_pick.specs.Locality.{kept, HaveSameSources};
 ghost use Rattle.tile_join.specs.Made.{IsTileMade};
@@ -38,29 +39,32 @@ pub enum TileStop {
 }
 
 /// Detects in a window of an image, with what the order says of background, neighbours, strips and workers, and tells what is found there of the whole
-/// image: the rows of the core's sources, the window's map, and the boxes of what it may not know.
+/// image: the rows of the core's sources, the window's map, and the boxes of what it may not know. A number may be given for the cells of the mesh
+/// without a value: the lower median of all values of the image. Without it a window that has such a cell knows nothing where the background is smooth.
 pub fn make_tile<R: Threads + Sync, G: Gate>(
     rt: &R,
     alloc: Global,
     image: Plane,
     order: &Order,
+    empty: Option<i64>,
     choice: &Choice,
     place: &TilePlace,
     gate: &G,
 ) -> Result<TileCatalogue, TileStop>
     requires limits { HasLimits order.now }
+    requires number { IfSome empty (λ v. IsWithin (2 ^ 29) v) }
     requires contrast { choice.now.contrast ≤ 1000 }
     requires storable { HasValuesInHalfRange image.values }
     ensures made { IfOk result (λ tile. (r : Raster) → IsPlane r → r.shape ≡ place.now.whole
-        → seen_through (window_of_place place.now image.shape) r ≡ image → IsTileMade (detection_of order.now choice.now) r tile) }
-    ensures told { IfOk result (λ tile. IsTileOfWindow order.now choice.now place.now image tile) }
+        → seen_through (window_of_place place.now image.shape) r ≡ image → IsTileMade (detection_of order.now empty choice.now) r tile) }
+    ensures told { IfOk result (λ tile. IsTileOfWindow order.now empty choice.now place.now image tile) }
     ensures storable { IfOk result (λ tile. IsStorable tile) }
     ensures misplaced { result ≡ Err TileStop.Misplaced → is_tile_place place.now image.shape order.now.mesh ≡ false }
 {
     if !is_placed(place, image.shape(), order.mesh) {
         return Err(TileStop::Misplaced);
     }
-    match make_placed(rt, alloc, image, order, choice, place, gate) {
+    match make_placed(rt, alloc, image, order, empty, choice, place, gate) {
         Ok(tile) => Ok(tile),
         Err(_) => Err(TileStop::NoMemory),
     }
@@ -82,22 +86,24 @@ fn make_placed<R: Threads + Sync, G: Gate>(
     alloc: Global,
     image: Plane,
     order: &Order,
+    empty: Option<i64>,
     choice: &Choice,
     place: &TilePlace,
     gate: &G,
 ) -> Result<TileCatalogue, OutOfMemory>
     requires placed { IsPlacedWell place.now image.shape order.now.mesh }
     requires limits { HasLimits order.now }
+    requires number { IfSome empty (λ v. IsWithin (2 ^ 29) v) }
     requires contrast { choice.now.contrast ≤ 1000 }
     requires storable { HasValuesInHalfRange image.values }
     ensures made { IfOk result (λ tile. (r : Raster) → IsPlane r → r.shape ≡ place.now.whole
-        → seen_through (window_of_place place.now image.shape) r ≡ image → IsTileMade (detection_of order.now choice.now) r tile) }
-    ensures told { IfOk result (λ tile. IsTileOfWindow order.now choice.now place.now image tile) }
+        → seen_through (window_of_place place.now image.shape) r ≡ image → IsTileMade (detection_of order.now empty choice.now) r tile) }
+    ensures told { IfOk result (λ tile. IsTileOfWindow order.now empty choice.now place.now image tile) }
     ensures storable { IfOk result (λ tile. IsStorable tile) }
 {
     laws_of_making();
-    let sure = sure_extent(alloc, &image, order, place)?;
-    let plane = searched_near(rt, alloc, image, order, choice)?;
+    let sure = sure_extent(alloc, &image, order, empty, place)?;
+    let plane = searched_near(rt, alloc, image, order, empty, choice)?;
     tell(rt, alloc, &plane, order, choice, place, sure, gate)
 }
 
@@ -107,21 +113,24 @@ fn searched_near<R: Threads + Sync>(
     alloc: Global,
     image: Plane,
     order: &Order,
+    empty: Option<i64>,
     choice: &Choice,
 ) -> Result<Plane, OutOfMemory>
     requires limits { HasLimits order.now }
+    requires number { IfSome empty (λ v. IsWithin (2 ^ 29) v) }
     requires storable { HasValuesInHalfRange image.values }
     ensures kept { IfOk result (λ plane.
-        plane ≡ kept (residual_of image order.now.mesh order.now.flat) order.now.connect choice.now.threshold) }
+        plane ≡ kept (residual_with empty image order.now.mesh order.now.flat) order.now.connect choice.now.threshold) }
     ensures same { IfOk result (λ plane.
-        HaveSameSources (residual_of image order.now.mesh order.now.flat) plane order.now.connect choice.now) }
+        HaveSameSources (residual_with empty image order.now.mesh order.now.flat) plane order.now.connect choice.now) }
 {
-    let mut plane = mesh_background::residual(
+    let mut plane = mesh_background::residual_with(
         rt,
         alloc,
         image,
         order.mesh,
         order.flat,
+        empty,
         order.workers,
     )?;
     clear_far(

@@ -21,6 +21,9 @@ const CHOICE: Choice = Choice {
     contrast: 0,
 };
 
+// Stands for a pixel without a value.
+const U: i64 = 99;
+
 // An image of one row, of these small values.
 fn row_of(alloc: Global, values: &[i64]) -> Result<Plane, Fail>
     ensures { IfOk result (λ plane. HasValuesInHalfRange plane.values) }
@@ -40,11 +43,14 @@ fn row_of(alloc: Global, values: &[i64]) -> Result<Plane, Fail>
     }
 }
 
-// A pixel of a small value.
+// A pixel of a small value, or of none.
 fn pixel_of(value: i64) -> Result<Option<i64>, Fail>
     ensures { IfOk result (λ pixel. IfSome pixel (λ v. IsWithin (2 ^ 29) v)) }
 {
-    if value < -99 || value > 99 {
+    if value == U {
+        return Ok(None);
+    }
+    if value < -U || value > U {
         return Err(Fail::from("a small value"));
     }
     Ok(Some(value))
@@ -68,6 +74,21 @@ fn tile_at<R: Threads + Sync>(
     values: &[i64],
     core: Frame,
 ) -> Result<Result<TileCatalogue, TileStop>, Fail> {
+    tile_by(rt, alloc, left, values, core, &["tree"], None)
+}
+
+// The same with this order, and this number of the mesh's cells without a value.
+fn tile_by<R: Threads + Sync>(
+    rt: &R,
+    alloc: Global,
+    left: u32,
+    values: &[i64],
+    core: Frame,
+    words: &[&str],
+    empty: Option<i64>,
+) -> Result<Result<TileCatalogue, TileStop>, Fail>
+    requires { IfSome empty (λ v. IsWithin (2 ^ 29) v) }
+{
     let place = TilePlace {
         whole: Shape::of(8, 1).ok_or("a shape")?,
         left,
@@ -75,10 +96,12 @@ fn tile_at<R: Threads + Sync>(
         core,
     };
     let image = row_of(alloc, values)?;
-    let Ok(order) = read_order(&["tree"]) else {
+    let Ok(order) = read_order(words) else {
         return Err(Fail::from("an order"));
     };
-    Ok(make_tile(rt, alloc, image, &order, &CHOICE, &place, &OpenGate))
+    Ok(make_tile(
+        rt, alloc, image, &order, empty, &CHOICE, &place, &OpenGate,
+    ))
 }
 
 // Of the image 0 5 0 0 5 5 0 5, the columns from 2 on.
@@ -103,6 +126,25 @@ fn a_component_at_the_windows_edge_is_open(rt: HostRuntime) -> Result<(), Fail> 
         return Err(Fail::from("a tile"));
     };
     assert!(rt; !tile.open.is_empty());
+    Ok(())
+}
+
+// The background is smooth, and each pixel a cell: one of them has no value. That of its neighbours is 0 with a 0 there.
+#[test]
+fn an_empty_cell_is_known_by_its_number(rt: HostRuntime) -> Result<(), Fail> {
+    let values = [0, 5, 0, U, 0, 9, 0, 0];
+    let words = ["tree", "--mesh", "1"];
+    let tile = tile_by(&rt, rt.alloc(), 0, &values, columns(0, 8)?, &words, None)?;
+    let Ok(tile) = tile else {
+        return Err(Fail::from("a tile"));
+    };
+    assert!(rt; !tile.open.is_empty());
+    let tile = tile_by(&rt, rt.alloc(), 0, &values, columns(0, 8)?, &words, Some(0))?;
+    let Ok(tile) = tile else {
+        return Err(Fail::from("a tile"));
+    };
+    assert!(rt; tile.open.is_empty());
+    assert_eq!(rt; tile.map.as_slice(), [0, 1, 0, 0, 0, 2, 0, 0].as_slice());
     Ok(())
 }
 

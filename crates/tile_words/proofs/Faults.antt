@@ -1,6 +1,6 @@
 -- The first word at fault among those that tell where a tile lies.
 use Rattle.std.proofs.Common.{◌≡◌, ◌∙◌, ℕ, ◌+◌, Bool, true, false, not, cond, List, [], ◌∷◌, ◌++◌, length, refl, ap, arith, codes}
-use Rattle.std.specs.Prelude.{Option, Some, None, is_some, option_and_then}
+use Rattle.std.specs.Prelude.{ℤ, Option, Some, None, is_some, option_and_then}
 use Rattle.std.specs.List.{position_from}
 use Rattle.std.specs.Str.{bytes_eq}
 use Rattle.comp_tree.specs.declared.shape.Shape.{Shape}
@@ -9,8 +9,8 @@ use Rattle.orders.specs.Options.{u16_in, positive_u16_in}
 use Rattle.orders.specs.Words.{word_at}
 use Rattle.tile_join.specs.declared.tiles.Frame.{Frame}
 use Rattle.tile_make.specs.TileOf.{frame_at}
-use Rattle.tile_words.specs.TileWords.{first_word_at_fault, shape_told, shape_faults, frame_told, frame_faults, place_faults}
-use Rattle.tile_words.specs.TileReading.{IsShapeRead, IsFrameRead, ArePlacesRead}
+use Rattle.tile_words.specs.TileWords.{first_word_at_fault, shape_told, shape_faults, frame_told, frame_faults, place_faults, empty_cells_in, gives_number, number_told, number_fault}
+use Rattle.tile_words.specs.TileReading.{IsShapeRead, IsFrameRead, ArePlacesRead, IsNumberRead}
 
 -- ---- lists of tests
 
@@ -166,3 +166,19 @@ places_read words whole window core named read framed cored = record {
   window = framed.told;
   core = cored.told;
 }
+
+-- ---- the number of empty cells
+
+pub no_number : (words : List (List ℕ)) → bytes_eq (word_at words 15) (codes "--empty-cells") ≡ false → IsNumberRead words None
+unfolding number_fault number_told gives_number
+no_number words other = record { good = rw other refl; told = rw other refl }
+
+pub number_read : (words : List (List ℕ)) (number : ℤ) → bytes_eq (word_at words 15) (codes "--empty-cells") ≡ true
+    → empty_cells_in (word_at words 16) ≡ Some number → IsNumberRead words (Some number)
+unfolding number_fault number_told gives_number
+number_read words number named is = record { good = rw (named, is) refl; told = rw (named, is) refl }
+
+pub number_at_fault : (words : List (List ℕ)) → bytes_eq (word_at words 15) (codes "--empty-cells") ≡ true
+    → empty_cells_in (word_at words 16) ≡ None → number_fault words ≡ Some 16
+unfolding number_fault gives_number
+number_at_fault words named none = rw (named, none) refl

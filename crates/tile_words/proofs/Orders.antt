@@ -2,7 +2,7 @@
 use Rattle.std.proofs.Common.{◌≡◌, ◌∙◌, ℕ, ◌+◌, ◌-◌, ◌≤◌, min, Bool, true, false, cond, nat_le, List, length, take, drop, refl, sym, ap, inl, inr, arith, codes}
 use Rattle.std.proofs.lemmas.Bool.{cases_lt}
 use Rattle.std.proofs.lemmas.List.{take_all, drop_all, drop-map, length-drop, length-map}
-use Rattle.std.specs.Prelude.{Some, None, Ok, Err}
+use Rattle.std.specs.Prelude.{ℤ, Option, Some, None, Ok, Err}
 use Rattle.std.specs.Str.{bytes_eq}
 use denote.Ref.{Bor}
 use Rattle.command_line.specs.Lines.{texts}
@@ -16,7 +16,8 @@ use Rattle.tile_make.specs.Placed.{is_tile_place}
 use Rattle.tile_words.specs.declared.places.Places.{Places}
 use Rattle.tile_words.specs.declared.words.TileOrder.{TileOrder}
 use Rattle.tile_words.specs.TileWords.{first_word_at_fault, place_faults, order_behind, choice_of_job, tile_in, tile_if_placed, tile_order_of, join_order_of}
-use Rattle.tile_words.specs.TileReading.{ArePlacesRead}
+use Rattle.tile_words.specs.TileWords.{number_fault, words_in_front}
+use Rattle.tile_words.specs.TileReading.{ArePlacesRead, IsNumberRead}
 
 -- ---- the words behind the places
 
@@ -29,12 +30,12 @@ drop_front xs front k is = elim (cases_lt (length xs) k) [
   | inr more ↦ let same : front ≡ k = omega (arith, is, more) in ap (λ n. drop n xs) same
 ]
 
-pub behind_is : (most : ℕ) (words : List (Bor (List ℕ))) (front : ℕ) → front ≡ min (length words) 14
-    → order_within most (texts (take (length words - front) (drop front words))) ≡ order_behind most (texts words)
+pub behind_is : (most count : ℕ) (words : List (Bor (List ℕ))) (front : ℕ) → front ≡ min (length words) count
+    → order_within most (texts (take (length words - front) (drop front words))) ≡ order_behind most count (texts words)
 unfolding order_behind
-behind_is most words front is =
+behind_is most count words front is =
     let all : length (drop front words) ≤ length words - front = omega (arith, length-drop front words) in
-    ap (order_within most) (ap texts (take_all (length words - front) (drop front words) all ∙ drop_front words front 14 is) ∙ sym (drop-map (λ (w : Bor (List ℕ)). w.now) 14 words))
+    ap (order_within most) (ap texts (take_all (length words - front) (drop front words) all ∙ drop_front words front count is) ∙ sym (drop-map (λ (w : Bor (List ℕ)). w.now) count words))
 
 -- ---- the order of a tile
 
@@ -56,37 +57,48 @@ pub place_at_fault : (most : ℕ) (words : List (List ℕ)) (usage : Usage) → 
 unfolding tile_order_of
 place_at_fault most words usage is = rw is refl
 
-pub order_at_fault : (most : ℕ) (words : List (List ℕ)) (places : Places) (usage : Usage) → ArePlacesRead words places
-    → order_behind most words ≡ Err usage → tile_order_of most words ≡ at_fault (usage.word + 14)
+pub number_word_at_fault : (most : ℕ) (words : List (List ℕ)) (places : Places) (usage : Usage) → ArePlacesRead words places
+    → number_fault words ≡ Some usage.word → tile_order_of most words ≡ Err usage
 unfolding tile_order_of
-order_at_fault most words places usage read is = rw (read.good, is) refl
+number_word_at_fault most words places usage read is = rw (read.good, is) refl
+
+-- the places and the number are read
+pub record IsFrontRead (words : List (List ℕ)) (places : Places) (empty : Option ℤ) : Type 0 where
+  pub places_are : ArePlacesRead words places
+  pub number : IsNumberRead words empty
+
+pub order_at_fault : (most : ℕ) (words : List (List ℕ)) (places : Places) (empty : Option ℤ) (usage : Usage) → IsFrontRead words places empty
+    → order_behind most (words_in_front empty) words ≡ Err usage → tile_order_of most words ≡ at_fault (usage.word + words_in_front empty)
+unfolding tile_order_of
+order_at_fault most words places empty usage read is = rw (read.places_are.good, read.number.good, read.number.told, is) refl
 
 -- an order that doesn't detect
-pub job_at_fault : (most : ℕ) (words : List (List ℕ)) (places : Places) (order : Order) → ArePlacesRead words places
-    → order_behind most words ≡ Ok order → choice_of_job order.job ≡ None → tile_order_of most words ≡ at_fault 15
+pub job_at_fault : (most : ℕ) (words : List (List ℕ)) (places : Places) (empty : Option ℤ) (order : Order) → IsFrontRead words places empty
+    → order_behind most (words_in_front empty) words ≡ Ok order → choice_of_job order.job ≡ None → tile_order_of most words ≡ at_fault (words_in_front empty + 1)
 unfolding tile_order_of
-job_at_fault most words places order read is none = rw (read.good, read.whole, read.window, read.core, is, none) refl
+job_at_fault most words places empty order read is none =
+    rw (read.places_are.good, read.places_are.whole, read.places_are.window, read.places_are.core, read.number.good, read.number.told, is, none) refl
 
-tile_read : (most : ℕ) (words : List (List ℕ)) (places : Places) (order : Order) (choice : Choice) → ArePlacesRead words places
-    → order_behind most words ≡ Ok order → choice_of_job order.job ≡ Some choice → (tile : TileOrder)
-    → tile ≡ tile_in places.whole places.window places.core order choice → tile_order_of most words ≡ tile_if_placed (Ok tile)
+tile_read : (most : ℕ) (words : List (List ℕ)) (places : Places) (empty : Option ℤ) (order : Order) (choice : Choice) → IsFrontRead words places empty
+    → order_behind most (words_in_front empty) words ≡ Ok order → choice_of_job order.job ≡ Some choice → (tile : TileOrder)
+    → tile ≡ tile_in places.whole places.window places.core empty order choice → tile_order_of most words ≡ tile_if_placed (Ok tile)
 unfolding tile_order_of
-tile_read most words places order choice read is detects tile tile_is =
-    rw (read.good, read.whole, read.window, read.core, is, detects) (ap (λ (t : TileOrder). tile_if_placed (Ok t)) (sym tile_is))
+tile_read most words places empty order choice read is detects tile tile_is =
+    rw (read.places_are.good, read.places_are.whole, read.places_are.window, read.places_are.core, read.number.good, read.number.told, is, detects) (ap (λ (t : TileOrder). tile_if_placed (Ok t)) (sym tile_is))
 
-pub tile_placed : (most : ℕ) (words : List (List ℕ)) (places : Places) (order : Order) (choice : Choice) → ArePlacesRead words places
-    → order_behind most words ≡ Ok order → choice_of_job order.job ≡ Some choice → (tile : TileOrder)
-    → tile ≡ tile_in places.whole places.window places.core order choice → is_tile_place tile.place tile.window order.mesh ≡ true
+pub tile_placed : (most : ℕ) (words : List (List ℕ)) (places : Places) (empty : Option ℤ) (order : Order) (choice : Choice) → IsFrontRead words places empty
+    → order_behind most (words_in_front empty) words ≡ Ok order → choice_of_job order.job ≡ Some choice → (tile : TileOrder)
+    → tile ≡ tile_in places.whole places.window places.core empty order choice → is_tile_place tile.place tile.window order.mesh ≡ true
     → tile_order_of most words ≡ Ok tile
-tile_placed most words places order choice read is detects tile tile_is placed =
-    tile_read most words places order choice read is detects tile tile_is ∙ placing tile order (ap (λ (t : TileOrder). t.order) tile_is) true placed
+tile_placed most words places empty order choice read is detects tile tile_is placed =
+    tile_read most words places empty order choice read is detects tile tile_is ∙ placing tile order (ap (λ (t : TileOrder). t.order) tile_is) true placed
 
-pub tile_misplaced : (most : ℕ) (words : List (List ℕ)) (places : Places) (order : Order) (choice : Choice) → ArePlacesRead words places
-    → order_behind most words ≡ Ok order → choice_of_job order.job ≡ Some choice → (tile : TileOrder)
-    → tile ≡ tile_in places.whole places.window places.core order choice → is_tile_place tile.place tile.window order.mesh ≡ false
+pub tile_misplaced : (most : ℕ) (words : List (List ℕ)) (places : Places) (empty : Option ℤ) (order : Order) (choice : Choice) → IsFrontRead words places empty
+    → order_behind most (words_in_front empty) words ≡ Ok order → choice_of_job order.job ≡ Some choice → (tile : TileOrder)
+    → tile ≡ tile_in places.whole places.window places.core empty order choice → is_tile_place tile.place tile.window order.mesh ≡ false
     → tile_order_of most words ≡ at_fault 5
-tile_misplaced most words places order choice read is detects tile tile_is placed =
-    tile_read most words places order choice read is detects tile tile_is ∙ placing tile order (ap (λ (t : TileOrder). t.order) tile_is) false placed
+tile_misplaced most words places empty order choice read is detects tile tile_is placed =
+    tile_read most words places empty order choice read is detects tile tile_is ∙ placing tile order (ap (λ (t : TileOrder). t.order) tile_is) false placed
 
 -- ---- joining
 

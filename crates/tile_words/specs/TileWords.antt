@@ -1,9 +1,10 @@
 -- Model: what the words of the command that makes a tile mean, and those of the command that joins tiles. Words are counted from 1.
-use Rattle.std.specs.Prelude.{ℕ, ◌+◌, Bool, not, nat_le, List, [], ◌∷◌, ◌++◌, length, drop, codes}
+use Rattle.std.specs.Prelude.{ℕ, ◌+◌, ◌^◌, Bool, ◌&&◌, not, ℤ, pos, neg_ℤ, nat_le, List, [], ◌∷◌, ◌++◌, length, drop, codes}
 use Rattle.std.specs.Prelude.{Option, Some, None, is_some, option_and_then, Result, Ok, Err, if◌then◌else◌}
 use Rattle.std.specs.List.{position_from}
 use Rattle.std.specs.Option.{option_map, option_or}
 use Rattle.std.specs.Str.{bytes_eq}
+use Rattle.command_line.specs.Numbers.{number_between}
 use Rattle.comp_tree.specs.declared.shape.Shape.{Shape}
 use Rattle.pixel_plane.specs.ImageLimits.{plane_shape}
 use Rattle.source_pick.specs.declared.choice.Choice.{Choice}
@@ -50,19 +51,43 @@ place_faults words =
 unfoldable pub first_word_at_fault : ℕ → List Bool → Option ℕ
 first_word_at_fault k faults = position_from (λ fault. fault) k faults
 
+-- ---- the number of the mesh's cells without a value, which may stand behind them
+
+-- a whole number within which the values of images of any size lie
+unfoldable pub empty_cells_in : List ℕ → Option ℤ
+empty_cells_in text = number_between (neg_ℤ (pos (2 ^ 29))) (pos (2 ^ 29)) text
+
+-- word 15 says that word 16 is it
+unfoldable pub gives_number : List (List ℕ) → Bool
+gives_number words = bytes_eq (word_at words 15) (codes "--empty-cells")
+
+unfoldable pub number_told : List (List ℕ) → Option ℤ
+number_told words = if gives_number words then empty_cells_in (word_at words 16) else None
+
+-- word 16 is at fault, where it is to be a number
+unfoldable pub number_fault : List (List ℕ) → Option ℕ
+number_fault words = if gives_number words && not (is_some (empty_cells_in (word_at words 16))) then Some 16 else None
+
+-- how many words stand in front of the order
+abbrev pub words_in_front : Option ℤ → ℕ
+words_in_front None = 14
+words_in_front (Some number) = 16
+
 -- ---- the order of a tile
 
--- the order that the words from word 15 on give
-unfoldable pub order_behind : (most : ℕ) → List (List ℕ) → Result Order Usage
-order_behind most words = order_within most (drop 14 words)
+-- the order that the words behind so many give
+unfoldable pub order_behind : (most front : ℕ) → List (List ℕ) → Result Order Usage
+order_behind most front words = order_within most (drop front words)
 
-abbrev pub fault_behind : Result Order Usage → Option ℕ
-fault_behind (Ok order) = None
-fault_behind (Err usage) = Some (usage.word + 14)
+abbrev pub fault_behind : (front : ℕ) → Result Order Usage → Option ℕ
+fault_behind front (Ok order) = None
+fault_behind front (Err usage) = Some (usage.word + front)
 
 -- the first word at fault, where images have no more pixels than the most
 abbrev pub tile_fault : (most : ℕ) → List (List ℕ) → Option ℕ
-tile_fault most words = option_or (first_word_at_fault 1 (place_faults words)) (fault_behind (order_behind most words))
+tile_fault most words =
+    let front = words_in_front (number_told words) in
+    option_or (first_word_at_fault 1 (place_faults words)) (option_or (number_fault words) (fault_behind front (order_behind most front words)))
 
 -- what a job that detects asks of a source
 abbrev pub choice_of_job : Job → Option Choice
@@ -73,21 +98,24 @@ choice_of_job (job.Trial seed shape) = None
 choice_of_job (job.Measure choice values) = None
 
 -- the tile of this core in this window
-abbrev pub tile_in : Shape → Frame → Frame → Order → Choice → TileOrder
-tile_in whole window core order choice = record {
+abbrev pub tile_in : Shape → Frame → Frame → Option ℤ → Order → Choice → TileOrder
+tile_in whole window core empty order choice = record {
   place = record { whole = whole; left = window.left; top = window.top; core = core };
   window = window.shape;
+  empty = empty;
   order = order;
   choice = choice;
 }
 
-abbrev pub tile_by : Option Shape → Option Frame → Option Frame → Result Order Usage → Option TileOrder
-tile_by (Some whole) (Some window) (Some core) (Ok order) = option_map (tile_in whole window core order) (choice_of_job order.job)
-tile_by whole window core order = None
+abbrev pub tile_by : Option Shape → Option Frame → Option Frame → Option ℤ → Result Order Usage → Option TileOrder
+tile_by (Some whole) (Some window) (Some core) empty (Ok order) = option_map (tile_in whole window core empty order) (choice_of_job order.job)
+tile_by whole window core empty order = None
 
 -- the tile that the words tell, where none of them is at fault; none where the order isn't to detect
 abbrev pub tile_told : (most : ℕ) → List (List ℕ) → Option TileOrder
-tile_told most words = tile_by (shape_told words 3) (frame_told words 5) (frame_told words 10) (order_behind most words)
+tile_told most words =
+    tile_by (shape_told words 3) (frame_told words 5) (frame_told words 10) (number_told words)
+    (order_behind most (words_in_front (number_told words)) words)
 
 -- a tile, where its place is one: the core in the window, the window in the image, and its corner on the mesh; else its window is at fault
 abbrev pub tile_if_placed : Result TileOrder Usage → Result TileOrder Usage
@@ -96,7 +124,8 @@ tile_if_placed (Err usage) = Err usage
 
 -- the order of a tile, or the first word at fault; where the order isn't to detect, that is its command
 unfoldable pub tile_order_of : (most : ℕ) → List (List ℕ) → Result TileOrder Usage
-tile_order_of most words = tile_if_placed (order_unless (tile_fault most words) 15 (tile_told most words))
+tile_order_of most words =
+    tile_if_placed (order_unless (tile_fault most words) (words_in_front (number_told words) + 1) (tile_told most words))
 
 -- ---- joining
 

@@ -1,12 +1,13 @@
 //! The words that tell where a tile lies.
-ghost use Rattle.std.specs.Prelude.{◌≡◌, ◌≤◌, ◌<◌, MatchResult};
+ghost use Rattle.std.specs.Prelude.{◌≡◌, ◌≤◌, ◌<◌, ◌^◌, IfOk, IfSome, MatchResult};
 ghost use Rattle.std.specs.Str.{bytes_eq};
 ghost use Rattle.command_line.specs.Lines.{texts};
 ghost use Rattle.orders.specs.Options.{u16_in, positive_u16_in};
 ghost use Rattle.orders.specs.Words.{word_at};
 ghost use Rattle.pixel_plane.specs.ImageLimits.{plane_shape};
-ghost use Rattle.tile_words.specs.TileWords.{first_word_at_fault, shape_faults, frame_faults, place_faults};
-ghost use Rattle.tile_words.specs.TileReading.{IsShapeRead, IsFrameRead, ArePlacesRead};
+ghost use Rattle.comp_tree.specs.Limits.{IsWithin};
+ghost use Rattle.tile_words.specs.TileWords.{first_word_at_fault, shape_faults, frame_faults, place_faults, empty_cells_in as cells_in, number_fault};
+ghost use Rattle.tile_words.specs.TileReading.{IsShapeRead, IsFrameRead, ArePlacesRead, IsNumberRead};
 
 use command_line::numbers::number_between;
 use comp_tree::Shape;
@@ -141,5 +142,31 @@ pub(crate) fn read_places(words: &[&str]) -> Result<Places, Usage>
             core,
         }),
         Err(usage) => Err(usage),
+    }
+}
+
+// A number of the mesh's cells without a value.
+#[tactic(auto, unfolding(crate::specs::TileWords::empty_cells_in))]
+fn empty_cells_in(words: &[&str], place: u32) -> Option<i64>
+    requires { 0 < place }
+    ensures exact { result ≡ cells_in (word_at (texts words.now) place) }
+    ensures within { IfSome result (λ v. IsWithin (2 ^ 29) v) }
+{
+    number_between(word_of(words, place), -(1 << 29), 1 << 29)
+}
+
+// That number behind the places, where it is given.
+pub(crate) fn read_number(words: &[&str]) -> Result<Option<i64>, Usage>
+    ensures read { MatchResult result
+        (λ empty. IsNumberRead (texts words.now) empty)
+        (λ usage. number_fault (texts words.now) ≡ Some usage.word) }
+    ensures within { IfOk result (λ empty. IfSome empty (λ v. IsWithin (2 ^ 29) v)) }
+{
+    if !is_word(words, 15, "--empty-cells") {
+        return Ok(None);
+    }
+    match empty_cells_in(words, 16) {
+        Some(number) => Ok(Some(number)),
+        None => Err(Usage { word: 16 }),
     }
 }

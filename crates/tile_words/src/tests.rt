@@ -9,6 +9,70 @@ use tile_make::TilePlace;
 
 const MOST: u32 = 2147483647;
 
+// The order of the words below, with this number.
+fn order_with(empty: Option<i64>) -> Result<TileOrder, Fail> {
+    let choice = Choice {
+        threshold: 9,
+        min_area: 1,
+        min_flux: 0,
+        contrast: 5,
+    };
+    Ok(TileOrder {
+        place: TilePlace {
+            whole: Shape::wide(3000, 2000).ok_or("a shape")?,
+            left: 64,
+            top: 128,
+            core: Frame {
+                left: 80,
+                top: 130,
+                shape: Shape::wide(400, 200).ok_or("a shape")?,
+            },
+        },
+        window: Shape::wide(512, 256).ok_or("a shape")?,
+        empty,
+        order: Order {
+            job: Job::Detect { choice },
+            hdu: 0,
+            connect: Connect::Four,
+            strips: 1,
+            workers: 1,
+            mesh: 32,
+            flat: false,
+        },
+        choice,
+    })
+}
+
+#[test]
+fn words_give_the_number_of_empty_cells(rt: HostRuntime) -> Result<(), Fail> {
+    let words = [
+        "tile",
+        "--whole",
+        "3000",
+        "2000",
+        "--window",
+        "64",
+        "128",
+        "512",
+        "256",
+        "--core",
+        "80",
+        "130",
+        "400",
+        "200",
+        "--empty-cells",
+        "-536870912",
+        "detect",
+        "--threshold",
+        "9",
+        "--mesh",
+        "32",
+    ];
+    let tile = order_with(Some(-536870912))?;
+    assert_eq!(rt; read_tile_order(&words, MOST), Ok(tile));
+    Ok(())
+}
+
 #[test]
 fn words_give_the_order_of_a_tile(rt: HostRuntime) -> Result<(), Fail> {
     let words = [
@@ -32,35 +96,7 @@ fn words_give_the_order_of_a_tile(rt: HostRuntime) -> Result<(), Fail> {
         "--mesh",
         "32",
     ];
-    let choice = Choice {
-        threshold: 9,
-        min_area: 1,
-        min_flux: 0,
-        contrast: 5,
-    };
-    let tile = TileOrder {
-        place: TilePlace {
-            whole: Shape::wide(3000, 2000).ok_or("a shape")?,
-            left: 64,
-            top: 128,
-            core: Frame {
-                left: 80,
-                top: 130,
-                shape: Shape::wide(400, 200).ok_or("a shape")?,
-            },
-        },
-        window: Shape::wide(512, 256).ok_or("a shape")?,
-        order: Order {
-            job: Job::Detect { choice },
-            hdu: 0,
-            connect: Connect::Four,
-            strips: 1,
-            workers: 1,
-            mesh: 32,
-            flat: false,
-        },
-        choice,
-    };
+    let tile = order_with(None)?;
     assert_eq!(rt; read_tile_order(&words, MOST), Ok(tile));
     Ok(())
 }
@@ -173,6 +209,48 @@ fn each_wrong_order_is_found(rt: HostRuntime) -> Result<(), Fail> {
                 "1",
             ],
             word: 5,
+        },
+    ];
+    for case in cases {
+        assert_eq!(rt;
+            read_tile_order(case.words, MOST),
+            Err(Usage { word: case.word })
+        );
+    }
+    Ok(())
+}
+
+// No number, one beyond 2^29, and the word behind `detect`, which stands at the place of an option's name there.
+#[test]
+fn each_wrong_number_is_found(rt: HostRuntime) -> Result<(), Fail> {
+    let cases: [WrongWord; 4] = [
+        WrongWord {
+            words: &[
+                "tile", "--whole", "9", "9", "--window", "0", "0", "9", "9", "--core", "0", "0",
+                "9", "9", "--empty-cells",
+            ],
+            word: 16,
+        },
+        WrongWord {
+            words: &[
+                "tile", "--whole", "9", "9", "--window", "0", "0", "9", "9", "--core", "0", "0",
+                "9", "9", "--empty-cells", "536870913", "detect", "--threshold", "1",
+            ],
+            word: 16,
+        },
+        WrongWord {
+            words: &[
+                "tile", "--whole", "9", "9", "--window", "0", "0", "9", "9", "--core", "0", "0",
+                "9", "9", "--empty-cells", "5", "detect", "--threshold", "",
+            ],
+            word: 19,
+        },
+        WrongWord {
+            words: &[
+                "tile", "--whole", "9", "9", "--window", "0", "0", "9", "9", "--core", "0", "0",
+                "9", "9", "detect", "--empty-cells", "5", "--threshold", "1",
+            ],
+            word: 16,
         },
     ];
     for case in cases {

@@ -1,10 +1,7 @@
-use Rattle.std.proofs.Common.{sym, ◌∙◌, ap, arith}
-use Rattle.comp_tree.specs.declared.shape.Shape.{Shape}
-use Rattle.tile_laws.specs.Clear.{clear_box}
-use Rattle.tile_make.specs.Placed.{window_of_place}
+use Rattle.std.proofs.Common.{sym, ◌∙◌, arith}
 use Rattle.tile_make.proofs.Exactly.{no_sure, one_sure, flat_known, meshless_known, full_known}
-use Rattle.tile_make.proofs.cells.sure_extent.Goals.{else-not-order-via-then-not-order+then-order-gt0+in_ok-has_full_mesh+else-not-branch, else-not-order-via-then-not-order+else-order-gt0, else-not-order-via-else-not-order}
-use Rattle.tile_make.proofs.cells.sure_extent.Goals as goal
+use Rattle.tile_make.proofs.cells.extent_of_full_cells.Goals.{else-not-order-via-then-not-order+then-order-gt0+in_ok-has_full_mesh+else-not-branch, else-not-order-via-then-not-order+else-order-gt0, else-not-order-via-else-not-order}
+use Rattle.tile_make.proofs.cells.extent_of_full_cells.Goals as goal
 
 pub returns-then-not-branch-clause-exact : goal.returns-then-not-branch-clause-exact
 returns-then-not-branch-clause-exact c =
@@ -17,8 +14,7 @@ returns-clause-exact c =
     let mesh = c.args.order.now.mesh in
     let place = c.args.place.now in
     let image = c.args.image.now in
-    one_sure flat mesh place image c.clear_extent.result
-    (c.clear_extent.ensures ∙ ap (λ (s : Shape). clear_box flat mesh place.whole (window_of_place place s)) c.shape.ensures.same)
+    one_sure flat mesh place image c.clear_part.result c.clear_part.ensures
     (elim c.else-not-order.branch [
       | else-not-order-via-then-not-order+then-order-gt0+in_ok-has_full_mesh+else-not-branch w ↦
           full_known flat mesh place image (sym w.in_ok-has_full_mesh.ensures.exact ∙ w.if-not-branch.false)
