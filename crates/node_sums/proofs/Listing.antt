@@ -5,7 +5,7 @@ use Rattle.std.specs.Prelude.{ℤ, ◌==◌, Option, Some, unwrap_or, slice_get,
 use Rattle.std.specs.List.{range_with_len, position_from}
 use Rattle.std.proofs.lemmas.Bool.{eq-eqb, eqb-true, ne_eqb, cases_lt, and_from, and_parts, and_right}
 use Rattle.std.proofs.lemmas.List.{get_or-map, length-map}
-use Rattle.std.proofs.lemmas.Option.{slice_get-get_or, slice_get_within, get_or_from_slice_get, same_Some}
+use Rattle.std.proofs.lemmas.Option.{slice_get_within, same_Some}
 use mir.Syntax.{w64}
 use mir.Val.{to_z, of_z}
 use Rattle.lemmas.proofs.Exported.{same_bool}
@@ -19,7 +19,7 @@ use Rattle.comp_tree.specs.Nesting.{pixels_of}
 use Rattle.comp_tree.proofs.Exported.{below_from_defined, in_node-defined}
 use Rattle.comp_tree.proofs.Exported as Nodes
 use Rattle.node_sums.specs.declared.entry.Sums.{Sums}
-use Rattle.node_sums.specs.Sums.{sums_over, sums_of, IsTreeOfPlane, AreSumsOfNode, AreSumsOfNodes}
+use Rattle.node_sums.specs.Sums.{sums_over, sums_of, AreSumsOfNode, AreSumsOfNodes}
 use Rattle.node_sums.specs.Sizes.{IsUpTo}
 use Rattle.node_sums.specs.DisjointNodes.{node_number_at, AreDisjointNodes, AreNumbered}
 use Rattle.node_sums.specs.Merging.{sums_at_place, is_own, AreOwn, AreOwnTo, place_from, places_of}

@@ -1,12 +1,11 @@
 -- Bookkeeping: what the passes over the nodes have found so far, and the map over the pixels.
-use Rattle.std.specs.Prelude.{◌≡◌, ℕ, ◌<◌, ◌+◌, ◌≤◌, Bool, true, false, List, length, map, filter, ◌⊎◌, slice_get, slice_index, slice_index_or, Some, unwrap_or}
+use Rattle.std.specs.Prelude.{◌≡◌, ℕ, ◌<◌, ◌+◌, ◌≤◌, Bool, true, false, List, length, map, filter, slice_get, slice_index, slice_index_or, Some, unwrap_or}
 use Rattle.std.specs.List.{range_with_len}
 use Rattle.comp_tree.specs.declared.shape.Connect.{Connect}
 use Rattle.comp_tree.specs.declared.tree.NodeRow.{NodeRow}
 use Rattle.comp_tree.specs.Raster.{Raster, IsPlane}
 use Rattle.comp_tree.specs.ComponentTree.{ComponentTree, parent_in, no_node}
 use Rattle.comp_tree.specs.Components.{tree_of}
-use Rattle.comp_tree.specs.Laws.{IsAncestor, top_of}
 use Rattle.node_sums.specs.declared.entry.Sums.{Sums}
 use Rattle.node_sums.specs.declared.outline.Outline.{Outline}
 use Rattle.node_sums.specs.Sums.{sums_of}

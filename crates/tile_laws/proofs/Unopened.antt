@@ -11,7 +11,8 @@ use Rattle.comp_tree.specs.Windows.{Window, Box, IsInside, in_whole, is_in_box, 
 use Rattle.comp_tree.proofs.Exported.{each_component_is_a_node, reaches-is_IsReached, reaches_here, seen-shape}
 use Rattle.mesh_background.specs.Windows.{IsOnMesh}
 use Rattle.mesh_background.proofs.Exported.{residual_shape}
-use Rattle.node_sums.specs.Sums.{sums_of, sums_in}
+use Rattle.node_sums.specs.Sums.{sums_of}
+use Rattle.node_sums.specs.Outlines.{outline_of, outlines_in}
 use Rattle.tile_laws.specs.declared.extents.Extent.{Extent}
 use Rattle.tile_laws.specs.Clear.{IsBoxWithin, IsSureBox}
 use Rattle.tile_laws.specs.Extents.{box_extent}
@@ -46,12 +47,12 @@ module _ (laws : BackgroundLaws) (d : DetectionChoice) (r : Raster) (t : Piece) 
   s_shape = residual_shape d.empty (seen_through t.window r) d.mesh d.flat ∙ seen-shape t.window r
 
   abbrev box : ℕ → Box
-  box n = node_box t.window.left t.window.top (sums_of s d.connect n)
+  box n = node_box t.window.left t.window.top (outline_of (sums_of s d.connect n))
 
   is_box : (n : ℕ) → IsNode s d.connect n → IsBoxOf r.shape (box n)
   is_box n node =
-      let e : HasBoxIn t.window.shape (sums_of s d.connect n) =
-      subst (λ (x : Shape). HasBoxIn x (sums_of s d.connect n)) s_shape (box_in s d.connect n s_plane node) in
+      let e : HasBoxIn t.window.shape (outline_of (sums_of s d.connect n)) =
+      subst (λ (x : Shape). HasBoxIn x (outline_of (sums_of s d.connect n))) s_shape (box_in s d.connect n s_plane node) in
       record {
         columns = omega (arith, e.left, e.columns);
         right = omega (arith, e.right, inside.columns);
@@ -62,7 +63,7 @@ module _ (laws : BackgroundLaws) (d : DetectionChoice) (r : Raster) (t : Piece) 
   -- a whole component whose box isn't settled is told
   told : (n : ℕ) → IsNode s d.connect n → IsTrue (is_whole_node d.choice.threshold (tree_of s d.connect).rows n)
       → is_box_settled r.shape core sure (box n) ≡ false
-      → Contains (open_extents d.choice.threshold (tree_of s d.connect).rows (sums_in s d.connect) t.window.left t.window.top r.shape core sure)
+      → Contains (open_extents d.choice.threshold (tree_of s d.connect).rows (outlines_in s d.connect) t.window.left t.window.top r.shape core sure)
       (box_extent (box n))
   told n node is_whole loose =
       subst (λ (es : List Extent). Contains es (box_extent (box n)))
@@ -76,7 +77,7 @@ module _ (laws : BackgroundLaws) (d : DetectionChoice) (r : Raster) (t : Piece) 
 
   -- so the components of other pixels lie deep in the sure box
   deep : (q b : ℕ) → IsTrue (is_in_box r.shape.width core (in_whole r.shape.width t.window q))
-      → (LiesInABox r.shape.width (open_extents d.choice.threshold (tree_of s d.connect).rows (sums_in s d.connect) t.window.left t.window.top r.shape
+      → (LiesInABox r.shape.width (open_extents d.choice.threshold (tree_of s d.connect).rows (outlines_in s d.connect) t.window.left t.window.top r.shape
       core sure) (in_whole r.shape.width t.window q) → ⊥)
       → IsTrue (is_at_least s d.choice.threshold q) → IsReached s d.connect d.choice.threshold q b
       → IsDeepIn r.shape sure (in_whole r.shape.width t.window b)
@@ -90,14 +91,14 @@ module _ (laws : BackgroundLaws) (d : DetectionChoice) (r : Raster) (t : Piece) 
       go (n, node, same) = by (is_box_settled r.shape core sure (box n)) refl
         where
           q_there : IsTrue (is_in_box r.shape.width (box n) (in_whole r.shape.width t.window q))
-          q_there = there s r.shape t.window core (sums_of s d.connect n) s_shape inside q (in_box s d.connect n q ((same q).0 itself))
+          q_there = there s r.shape t.window core (outline_of (sums_of s d.connect n)) s_shape inside q (in_box s d.connect n q ((same q).0 itself))
 
           by : (settled : Bool) → is_box_settled r.shape core sure (box n) ≡ settled → IsDeepIn r.shape sure (in_whole r.shape.width t.window b)
           by true e =
               (settled_test_is_exact r.shape core sure (box n) (is_box n node)).0 e
-              (meets s r.shape t.window core (sums_of s d.connect n) s_shape inside q (in_box s d.connect n q ((same q).0 itself)) in_core)
+              (meets s r.shape t.window core (outline_of (sums_of s d.connect n)) s_shape inside q (in_box s d.connect n q ((same q).0 itself)) in_core)
               (in_whole r.shape.width t.window b)
-              (there s r.shape t.window core (sums_of s d.connect n) s_shape inside b (in_box s d.connect n b ((same b).0 path)))
+              (there s r.shape t.window core (outline_of (sums_of s d.connect n)) s_shape inside b (in_box s d.connect n b ((same b).0 path)))
           by false e =
               absurd (free (record {
                 it = box_extent (box n);

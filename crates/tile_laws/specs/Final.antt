@@ -4,7 +4,7 @@ use Rattle.comp_tree.specs.Raster.{Raster, IsPlane}
 use Rattle.comp_tree.specs.Components.{tree_of}
 use Rattle.comp_tree.specs.Windows.{IsInside, Box, is_in_box, seen_through}
 use Rattle.mesh_background.specs.Windows.{IsOnMesh}
-use Rattle.node_sums.specs.Sums.{sums_in}
+use Rattle.node_sums.specs.Outlines.{outlines_in}
 use Rattle.source_pick.specs.declared.catalogue.CatRow.{CatRow}
 use Rattle.tile_laws.specs.declared.extents.Extent.{Extent}
 use Rattle.tile_laws.specs.Clear.{IsBoxWithin, IsSureBox}
@@ -42,7 +42,7 @@ UnopenedPixelsAreAnswered = (d : DetectionChoice) (r : Raster) (t : Piece) (core
     → (0 < d.mesh → IsOnMesh d.mesh t.window) → IsSureBox d.empty r t.window d.flat d.mesh sure → IsBoxWithin sure core
     → ((p : ℕ) → IsTrue (t.core p) → IsTrue (is_in_box r.shape.width core p))
     → ((p : ℕ) → IsTrue (t.core p) → LiesInABox r.shape.width (open_extents d.choice.threshold (tree_of (searched d (seen_through t.window r)) d.connect).rows
-    (sums_in (searched d (seen_through t.window r)) d.connect) t.window.left t.window.top r.shape core sure) p → ⊥)
+    (outlines_in (searched d (seen_through t.window r)) d.connect) t.window.left t.window.top r.shape core sure) p → ⊥)
     → AnswersForCore d r t
 
 -- the rows of one piece that answers for its core are final, whatever the rest of the image is

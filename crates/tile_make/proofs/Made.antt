@@ -19,8 +19,8 @@ use Rattle.mesh_background.specs.Residuals.{residual_with}
 use Rattle.mesh_background.specs.Windows.{HasDefinedCellsIn}
 use Rattle.mesh_background.proofs.Exported.{residual_shape}
 use Rattle.comp_tree.specs.Components.{tree_of}
-use Rattle.node_sums.specs.declared.entry.Sums.{Sums}
-use Rattle.node_sums.specs.Sums.{sums_in}
+use Rattle.node_sums.specs.declared.outline.Outline.{Outline}
+use Rattle.node_sums.specs.Outlines.{outlines_in}
 use Rattle.source_pick.specs.declared.choice.Choice.{Choice}
 use Rattle.source_pick.specs.declared.catalogue.CatRow.{CatRow}
 use Rattle.source_pick.specs.Catalogue.{catalogue, moved_row}
@@ -118,17 +118,17 @@ own_from place shape width frame core rows found d seen width_is core_is window_
 
 -- the boxes that are left open of two planes with the same pixels of at least the threshold
 left_alike : (threshold : ℤ) (place : TilePlace) (sure : Option Extent) (connect : Connect) (r s : Raster) → IsPlane r → IsPlane s → AlikeAbove r s threshold
-    → left_open threshold place sure (tree_of r connect).rows (sums_in r connect) ≡ left_open threshold place sure (tree_of s connect).rows (sums_in s connect)
+    → left_open threshold place sure (tree_of r connect).rows (outlines_in r connect) ≡ left_open threshold place sure (tree_of s connect).rows (outlines_in s connect)
 unfolding left_open
 left_alike threshold place None connect r s one other alike = refl
 left_alike threshold place (Some sure) connect r s one other alike =
     ap (λ (boxes : List Extent). cond (holds_box (extent_box sure) (core_box place)) boxes (box_extent (core_box place) ∷ []))
     (open_alike r s connect threshold place.left place.top place.whole (core_box place) (extent_box sure) one other alike)
 
-left_open-none : (threshold : ℤ) (place : TilePlace) (rows : List NodeRow) (sums : List Sums)
-    → left_open threshold place None rows sums ≡ box_extent (core_box place) ∷ []
+left_open-none : (threshold : ℤ) (place : TilePlace) (rows : List NodeRow) (outlines : List Outline)
+    → left_open threshold place None rows outlines ≡ box_extent (core_box place) ∷ []
 unfolding left_open
-left_open-none threshold place rows sums = refl
+left_open-none threshold place rows outlines = refl
 
 module _ (laws : MakingLaws) (order : Order) (empty : Option ℤ) (choice : Choice) (place : TilePlace) (image k : Raster) (sure : Option Extent) (t : TileCatalogue)
     (well : IsPlacedWell place image.shape order.mesh)
@@ -190,7 +190,7 @@ module _ (laws : MakingLaws) (order : Order) (empty : Option ℤ) (choice : Choi
   abbrev known : ℕ → Bool
   known = is_known_of r.shape.width t.core t.open.items
 
-  open_is : t.open.items ≡ left_open choice.threshold place sure (tree_of left order.connect).rows (sums_in left order.connect)
+  open_is : t.open.items ≡ left_open choice.threshold place sure (tree_of left order.connect).rows (outlines_in left order.connect)
   open_is =
       told.open ∙ sym (left_alike choice.threshold place sure order.connect left k left_plane told.plane
       (subst (λ (x : Raster). AlikeAbove left x choice.threshold) (sym k_is) (alike_kept left order.connect choice.threshold)))
@@ -234,13 +234,13 @@ module _ (laws : MakingLaws) (order : Order) (empty : Option ℤ) (choice : Choi
 
   -- with a box in which the background is the image's
   answers_by : (extent : Extent) → IsSureExtent empty order.flat order.mesh image place extent
-      → t.open.items ≡ left_open choice.threshold place (Some extent) (tree_of left order.connect).rows (sums_in left order.connect)
+      → t.open.items ≡ left_open choice.threshold place (Some extent) (tree_of left order.connect).rows (outlines_in left order.connect)
       → AnswersForCore d r known_piece
   unfolding left_open
   answers_by extent is boxes = by (holds_box (extent_box extent) (core_box place)) refl
     where
       told_boxes : List Extent
-      told_boxes = open_extents choice.threshold (tree_of left order.connect).rows (sums_in left order.connect) place.left place.top place.whole
+      told_boxes = open_extents choice.threshold (tree_of left order.connect).rows (outlines_in left order.connect) place.left place.top place.whole
           (core_box place) (extent_box extent)
 
       boxes_of : (b : Bool) → holds_box (extent_box extent) (core_box place) ≡ b → t.open.items ≡ cond b told_boxes (box_extent (core_box place) ∷ [])
@@ -254,11 +254,11 @@ module _ (laws : MakingLaws) (order : Order) (empty : Option ℤ) (choice : Choi
           (λ p own lies. lies_in_none p own (subst (λ (xs : List Extent). LiesInABox r.shape.width xs p) same_boxes lies))
         where
           same_boxes : open_extents choice.threshold (tree_of (searched d (seen_through w r)) order.connect).rows
-              (sums_in (searched d (seen_through w r)) order.connect) w.left w.top r.shape (core_box place) (extent_box extent) ≡ t.open.items
+              (outlines_in (searched d (seen_through w r)) order.connect) w.left w.top r.shape (core_box place) (extent_box extent) ≡ t.open.items
           same_boxes =
-              ap (λ (s : Raster). open_extents choice.threshold (tree_of (searched d s) order.connect).rows (sums_in (searched d s) order.connect)
+              ap (λ (s : Raster). open_extents choice.threshold (tree_of (searched d s) order.connect).rows (outlines_in (searched d s) order.connect)
               w.left w.top r.shape (core_box place) (extent_box extent)) seen
-              ∙ ap (λ (s : Shape). open_extents choice.threshold (tree_of left order.connect).rows (sums_in left order.connect) place.left place.top s
+              ∙ ap (λ (s : Shape). open_extents choice.threshold (tree_of left order.connect).rows (outlines_in left order.connect) place.left place.top s
               (core_box place) (extent_box extent)) shape
               ∙ sym (boxes_of true e)
 
@@ -267,11 +267,11 @@ module _ (laws : MakingLaws) (order : Order) (empty : Option ℤ) (choice : Choi
     where
       by : (o : Option Extent) → sure ≡ o → IfSome o (λ box. IsSureExtent empty order.flat order.mesh image place box) → AnswersForCore d r known_piece
       by None e h = nothing_known (none_known (open_is
-          ∙ ap (λ (x : Option Extent). left_open choice.threshold place x (tree_of left order.connect).rows (sums_in left order.connect)) e
-          ∙ left_open-none choice.threshold place (tree_of left order.connect).rows (sums_in left order.connect)))
+          ∙ ap (λ (x : Option Extent). left_open choice.threshold place x (tree_of left order.connect).rows (outlines_in left order.connect)) e
+          ∙ left_open-none choice.threshold place (tree_of left order.connect).rows (outlines_in left order.connect)))
       by (Some extent) e h =
           answers_by extent h
-          (open_is ∙ ap (λ (x : Option Extent). left_open choice.threshold place x (tree_of left order.connect).rows (sums_in left order.connect)) e)
+          (open_is ∙ ap (λ (x : Option Extent). left_open choice.threshold place x (tree_of left order.connect).rows (outlines_in left order.connect)) e)
 
   piece_is : known_piece ≡ known_piece_of r.shape.width t
   piece_is = ap (λ (v : Window). record { window = v; core = known }) (sym window_is)
@@ -302,7 +302,7 @@ tile_of_window order empty choice place image k sure t sure_is k_is same told = 
   map = told.map ∙ sym same.numbers;
   «open» =
       told.open
-      ∙ ap (λ (o : Option Extent). left_open choice.threshold place o (tree_of k order.connect).rows (sums_in k order.connect)) sure_is
+      ∙ ap (λ (o : Option Extent). left_open choice.threshold place o (tree_of k order.connect).rows (outlines_in k order.connect)) sure_is
       ∙ sym (left_alike choice.threshold place (sure_extent_of empty order.flat order.mesh place image) order.connect left k left_plane told.plane alike);
 }
   where

@@ -10,7 +10,7 @@ use Rattle.comp_tree.specs.Windows.{IsInside}
 use Rattle.mesh_background.specs.Mesh.{cell_count, mesh_cell_of}
 use Rattle.mesh_background.specs.Windows.{IsOnMesh}
 use Rattle.mesh_background.specs.Laws.{ResidualIsPlane}
-use Rattle.node_sums.specs.Sums.{sums_in}
+use Rattle.node_sums.specs.Outlines.{outlines_in}
 use Rattle.source_pick.specs.declared.choice.Choice.{Choice}
 use Rattle.source_pick.specs.declared.catalogue.CatRow.{CatRow}
 use Rattle.source_pick.specs.Catalogue.{catalogue, cells_of, FitsColumns}
@@ -62,7 +62,7 @@ pub record IsTold (k : Raster) (connect : Connect) (choice : Choice) (place : Ti
   pub core : t.core ≡ place.core
   pub rows : t.rows.items ≡ own_of place k.shape (catalogue k connect choice)
   pub map : t.map.items ≡ segmentation k connect choice
-  pub «open» : t.open.items ≡ left_open choice.threshold place sure (tree_of k connect).rows (sums_in k connect)
+  pub «open» : t.open.items ≡ left_open choice.threshold place sure (tree_of k connect).rows (outlines_in k connect)
 
 -- the laws on which a tile stands
 pub record MakingLaws : Type 0 where
