@@ -5,8 +5,7 @@ ghost use Rattle.std.specs.Prelude.{◌≡◌, IfOk};
 use super::*;
 use comp_tree::{Connect, Plane, Shape, plain_tree};
 use fits_write::CELLS_IN_ROW;
-use node_sums::sums;
-use source_pick::{CatRow, cells, row};
+use source_pick::{CatRow, Choice, cells, pick, row};
 use std::alloc::Global;
 use std::test::Fail;
 
@@ -111,11 +110,17 @@ fn only_row(alloc: Global) -> Result<CatRow, Fail> {
     let shape = Shape::of(1, 1).ok_or("a shape")?;
     let plane = Plane::of(alloc, shape, &[Some(7)])?.ok_or("a plane")?;
     let tree = plain_tree(alloc, &plane, Connect::Four)?;
-    let found = sums(alloc, &plane, &tree)?;
-    if tree.rows().is_empty() {
-        return Err(Fail::from("no node"));
+    let choice = Choice {
+        threshold: 7,
+        min_area: 1,
+        min_flux: 0,
+        contrast: 5,
+    };
+    let picked = pick(alloc, &plane, &tree, &choice)?;
+    if picked.nodes.is_empty() || picked.sums.is_empty() {
+        return Err(Fail::from("no source"));
     }
-    Ok(row(&tree, &found, 1, 0))
+    Ok(row(&tree, &picked.sums[0], 1, picked.nodes[0]))
 }
 
 #[test]

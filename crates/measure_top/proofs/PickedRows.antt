@@ -12,7 +12,7 @@ use Rattle.comp_tree.specs.Components.{row_of, tree_of}
 use Rattle.comp_tree.specs.Components as of_plane
 use Rattle.comp_tree.specs.Laws.{top_of}
 use Rattle.node_sums.specs.declared.entry.Sums.{Sums}
-use Rattle.node_sums.specs.Sums.{sums_in}
+use Rattle.node_sums.specs.Sums.{sums_of}
 use Rattle.node_sums.proofs.Exported.{rows_are}
 use Rattle.source_pick.specs.Catalogue.{catalogue_row, catalogue_of, FitsColumns}
 use Rattle.tree_products.proofs.Exported.{row_more, rows_all}
@@ -35,7 +35,7 @@ each_more P (z ∷ xs) x before now (suc k) y at = each_more P xs x (λ j w. bef
 pub record AreFirstNodes (tree : ComponentTree) (sums : List Sums) (picked : List ℕ) (count : ℕ) (nodes : List PickedNode) : Type 0 where
   pub many : length nodes ≡ count
   pub fits : HaveFittingRows nodes
-  pub rows : (plane : Raster) (connect : Connect) → tree ≡ tree_of plane connect → sums ≡ sums_in plane connect
+  pub rows : (plane : Raster) (connect : Connect) → tree ≡ tree_of plane connect → sums ≡ map (sums_of plane connect) picked
       → map (λ n. n.row) nodes ≡ take count (catalogue_of plane connect picked)
   pub representatives : (plane : Raster) (connect : Connect) → tree ≡ tree_of plane connect
       → map (λ n. n.rep) nodes ≡ map (top_of plane connect) (take count picked)
@@ -55,7 +55,7 @@ no_nodes tree sums picked nodes empty = record {
 pub node_more : (tree : ComponentTree) (sums : List Sums) (picked : List ℕ) (count : ℕ) (nodes nodes' : List PickedNode) (node : PickedNode)
     → AreFirstNodes tree sums picked count nodes
     → count < length picked → nodes' ≡ nodes ++ node ∷ [] → FitsColumns node.row
-    → ((plane : Raster) (connect : Connect) → tree ≡ tree_of plane connect → sums ≡ sums_in plane connect → node.row
+    → ((plane : Raster) (connect : Connect) → tree ≡ tree_of plane connect → sums ≡ map (sums_of plane connect) picked → node.row
     ≡ catalogue_row plane connect (count + 1) (get_or picked count 0))
     → ((plane : Raster) (connect : Connect) → tree ≡ tree_of plane connect → node.rep ≡ top_of plane connect (get_or picked count 0))
     → AreFirstNodes tree sums picked (count + 1) nodes'
@@ -76,7 +76,7 @@ node_more tree sums picked count nodes nodes' node before within more fits row r
 
 pub all_nodes : (tree : ComponentTree) (sums : List Sums) (picked : List ℕ) (count : ℕ) (nodes : List PickedNode) → AreFirstNodes tree sums picked count nodes
     → length picked ≤ count
-    → (plane : Raster) (connect : Connect) → tree ≡ tree_of plane connect → sums ≡ sums_in plane connect → AreNodesOf plane connect picked nodes
+    → (plane : Raster) (connect : Connect) → tree ≡ tree_of plane connect → sums ≡ map (sums_of plane connect) picked → AreNodesOf plane connect picked nodes
 all_nodes tree sums picked count nodes are whole plane connect is sums_are = record {
   rows = rows_all plane connect picked count (map (λ n. n.row) nodes) (are.rows plane connect is sums_are) whole;
   representatives = are.representatives plane connect is ∙ ap (map (top_of plane connect)) (take_all count picked whole);

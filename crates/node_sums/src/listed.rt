@@ -62,14 +62,7 @@ fn add_pixels(plane: &Plane, node_of: &[u32], numbers: &[u32], sums: &mut [Sums]
 
 // Adds the defined pixels of one row, counted from 0. All rows before it were added. Behind an undefined pixel it goes on at the next
 // defined one: so few pixels are passed quickly, and where all are defined, none is looked at twice.
-fn add_row(
-    plane: &Plane,
-    node_of: &[u32],
-    numbers: &[u32],
-    width: u32,
-    row: u32,
-    sums: &mut [Sums],
-)
+fn add_row(plane: &Plane, node_of: &[u32], numbers: &[u32], width: u32, row: u32, sums: &mut [Sums])
     requires nodes { (p : ℕ) → IsTrue (is_defined plane.now p)
         → slice_index node_of.now p < length numbers.now }
     requires numbers { (n : ℕ) → slice_index numbers.now n ≤ length sums.old }

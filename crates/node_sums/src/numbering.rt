@@ -10,11 +10,7 @@ use std::alloc::Global;
 
 /// For each node of a tree the place, from 1, of the listed node in which it lies, else 0: one pass over the nodes from
 /// the first to the last. The one error is that memory was refused.
-pub fn numbers_of_nodes(
-    alloc: Global,
-    tree: &Tree,
-    nodes: &[u32],
-) -> Result<Vec<u32>, OutOfMemory>
+pub fn numbers_of_nodes(alloc: Global, tree: &Tree, nodes: &[u32]) -> Result<Vec<u32>, OutOfMemory>
     requires { AreDisjointNodes tree.now nodes.now }
     ensures { IfOk result (λ numbers.
         AreNumbered tree.now nodes.now (length tree.now.rows) numbers.items) }

@@ -155,7 +155,10 @@ fn sums_and_fluxes_of_small_planes(rt: HostRuntime) -> Result<(), Fail> {
         assert!(rt; case.node < tree.node_count());
         let one = sums_of_one(rt.alloc(), &plane, &tree, case.node)?;
         assert!(rt; one.0 == case.sums, "sums of case {number}");
-        assert!(rt; one.1 == case.nodes[case.node as usize].2, "flux of case {number}");
+        assert!(rt;
+            one.1 == case.nodes[case.node as usize].2,
+            "flux of case {number}"
+        );
         assert!(rt; areas.as_slice() == case.areas, "areas of case {number}");
     }
     Ok(())

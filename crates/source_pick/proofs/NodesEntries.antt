@@ -9,7 +9,7 @@ use Rattle.comp_tree.specs.Raster.{Raster, IsPlane}
 use Rattle.comp_tree.specs.ComponentTree.{no_node}
 use Rattle.comp_tree.specs.Components.{nodes, is_in_node, tree_of}
 use Rattle.comp_tree.specs.Laws.{IsAncestor, top_of, parent_of_node}
-use Rattle.comp_tree.proofs.Exported.{length-rows, below_no_node, within_from_test, test_from_within, top_inside}
+use Rattle.comp_tree.proofs.Exported.{below_no_node, within_from_test, test_from_within, top_inside}
 use Rattle.source_pick.specs.declared.choice.Choice.{Choice}
 use Rattle.source_pick.specs.Sources.{is_large, is_lowest, is_entry, entry_of}
 use Rattle.comp_tree.specs.Nesting.{node_numbers, level_of_node, lies_within}

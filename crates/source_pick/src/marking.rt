@@ -120,7 +120,13 @@ pub(crate) fn strong_nodes(
     Ok(strong)
 }
 
-fn find_strong(tree: &Tree, outlines: &[Outline], choice: &Choice, entries: &[u32], strong: &mut [bool])
+fn find_strong(
+    tree: &Tree,
+    outlines: &[Outline],
+    choice: &Choice,
+    entries: &[u32],
+    strong: &mut [bool],
+)
     requires outlines { AreOutlinesOfTree tree.now outlines.now }
     requires entries { AreEntries choice.now tree.now outlines.now (length tree.now.rows) entries.now }
     requires one_each { length strong.old ≡ length tree.now.rows }
@@ -132,7 +138,13 @@ fn find_strong(tree: &Tree, outlines: &[Outline], choice: &Choice, entries: &[u3
     }
 }
 
-fn passes_as_strong(tree: &Tree, outlines: &[Outline], choice: &Choice, entries: &[u32], n: u32) -> bool
+fn passes_as_strong(
+    tree: &Tree,
+    outlines: &[Outline],
+    choice: &Choice,
+    entries: &[u32],
+    n: u32,
+) -> bool
     requires node { n < length tree.now.rows }
     requires outlines { AreOutlinesOfTree tree.now outlines.now }
     requires entries { AreEntries choice.now tree.now outlines.now (length tree.now.rows) entries.now }

@@ -1,5 +1,5 @@
 -- The rows of the sheet's sources, taken back to the plane, and their cells.
-use Rattle.std.proofs.Common.{◌≡◌, ℕ, ◌+◌, ◌*◌, ◌^◌, ◌<◌, ◌≤◌, true, List, [], ◌∷◌, ◌++◌, length, take, get_or, refl, sym, ◌∙◌, ap, subst, arith, append-nil, length-append, ℤ, ◌-◌, neg_ℤ, lit<}
+use Rattle.std.proofs.Common.{◌≡◌, ℕ, ◌+◌, ◌*◌, ◌^◌, ◌<◌, ◌≤◌, true, List, [], ◌∷◌, ◌++◌, length, take, map, get_or, refl, sym, ◌∙◌, ap, subst, arith, append-nil, length-append, ℤ, ◌-◌, neg_ℤ, lit<}
 use Rattle.std.specs.Prelude.{pos, ◌+ℤ◌, ◌-ℤ◌, ◌*ℤ◌, ◌≤ℤ◌, Some, slice_get}
 use Rattle.std.specs.List.{flat_map, enumerate_from, AllByRecursion}
 use Rattle.std.proofs.lemmas.Int.{ints, to_z-of_z, to_z_pos}
@@ -18,7 +18,7 @@ use Rattle.comp_tree.specs.Laws.{IsNode, top_of}
 use Rattle.comp_tree.specs.Nesting.{pixels_of}
 use Rattle.comp_tree.proofs.Exported.{among_pixels, below_from_defined, in_node-defined, in_node_from_among, top_inside}
 use Rattle.node_sums.specs.declared.entry.Sums.{Sums}
-use Rattle.node_sums.specs.Sums.{x_of, y_of, least, greatest, sums_over, sums_of, sums_in}
+use Rattle.node_sums.specs.Sums.{x_of, y_of, least, greatest, sums_over, sums_of, AreSumsOfNode, AreSumsOfNodes}
 use Rattle.node_sums.proofs.Exported.{x_small, y_small, least_at_most, greatest_up_to, fits}
 use Rattle.fits_write.specs.Columns.{IsTable}
 use Rattle.fits_write.specs.CatalogueColumns.{catalogue_columns}
@@ -30,7 +30,8 @@ use Rattle.source_pick.proofs.Exported.{first_inside, row_fits}
 use Rattle.source_sheet.specs.declared.sheet.Place.{Place}
 use Rattle.source_sheet.specs.declared.back.Taken.{Taken}
 use Rattle.source_sheet.specs.Laid.{part_of}
-use Rattle.source_sheet.specs.Backs.{IsCoordinate, IsSmallRow, IsNear, found_as, found_of}
+use Rattle.node_sums.proofs.Exported.{sums_at}
+use Rattle.source_sheet.specs.Backs.{IsCoordinate, IsSmallRow, IsNear, found_as, found_of, nodes_in}
 use Rattle.source_sheet.proofs.Taking.{get_mapped}
 
 -- ---- how large the numbers of a row are
@@ -113,7 +114,7 @@ pub record AreCellsBack (tree : ComponentTree) (sums : List Sums) (taken : List 
   pub made : items ≡ flat_map cells_of rows
   pub one_each : length rows ≡ count
   pub fit : AllByRecursion (λ row. FitEach catalogue_columns (cells_of row)) rows
-  pub exact : (s : Raster) (connect : Connect) → tree ≡ tree_of s connect → sums ≡ sums_in s connect → (h : ℤ)
+  pub exact : (s : Raster) (connect : Connect) → tree ≡ tree_of s connect → sums ≡ map (sums_of s connect) (nodes_in taken) → (h : ℤ)
       → rows ≡ take count (sheet_rows s connect (found_of s h taken))
 
 pub no_cells : (tree : ComponentTree) (sums : List Sums) (taken : List Taken) (items : List ℤ) → items ≡ [] → AreCellsBack tree sums taken 0 items
@@ -145,9 +146,28 @@ row_numbered s connect h taken count e d got =
     (get_or_from_slice_get (found_of s h taken) count (found_as s h e) (found_as s h e) (get_mapped (found_as s h) taken count e got))
     ∙ ap (λ (n : ℕ). row_back (part_of s h e.place) (catalogue_row s connect n e.node)) number
 
+-- the sums of a taken source stand at its place
+pub sums_taken : (s : Raster) (connect : Connect) (taken : List Taken) (sums : List Sums) (count : ℕ) (d : Sums) (e : Taken)
+    → sums ≡ map (sums_of s connect) (nodes_in taken) → slice_get taken count ≡ Some e → get_or sums count d ≡ sums_of s connect e.node
+sums_taken s connect taken sums count d e are got =
+    let few : count < length taken = slice_get_within taken count e got in
+    sums_at s connect (nodes_in taken) sums count d are (omega (arith, few, length-map taken (λ (x : Taken). x.node)))
+    ∙ ap (sums_of s connect) (get_or_from_slice_get (nodes_in taken) count e.node 0 (get_mapped (λ (x : Taken). x.node) taken count e got))
+
+pub sums_of_taken : (tree : ComponentTree) (taken : List Taken) (sums : List Sums) (count : ℕ) (d : Sums) (e : Taken)
+    → AreSumsOfNodes tree (nodes_in taken) sums → slice_get taken count ≡ Some e → AreSumsOfNode tree e.node (get_or sums count d)
+sums_of_taken tree taken sums count d e h got = record {
+  plane = h.plane;
+  connect = h.connect;
+  one_each = h.one_each;
+  in_range = h.in_range;
+  tree_is = h.tree_is;
+  sums_are = sums_taken h.plane h.connect taken sums count d e h.sums_are got;
+}
+
 pub cells_more : (tree : ComponentTree) (sums : List Sums) (taken : List Taken) (count : ℕ) (items items' : List ℤ) (e : Taken) (row : CatRow)
     → AreCellsBack tree sums taken count items → slice_get taken count ≡ Some e → items' ≡ items ++ cells_of row → FitsColumns row
-    → ((s : Raster) (connect : Connect) → tree ≡ tree_of s connect → sums ≡ sums_in s connect → (t : Raster) (h : ℤ)
+    → ((s : Raster) (connect : Connect) → tree ≡ tree_of s connect → sums ≡ map (sums_of s connect) (nodes_in taken) → (t : Raster) (h : ℤ)
     → row ≡ row_back (part_of t h e.place) (catalogue_row s connect (count + 1) e.node))
     → AreCellsBack tree sums taken (count + 1) items'
 cells_more tree sums taken count items items' e row before got more columns is = record {
@@ -165,7 +185,7 @@ cells_more tree sums taken count items items' e row before got more columns is =
 }
 
 pub all_cells : (tree : ComponentTree) (sums : List Sums) (taken : List Taken) (count : ℕ) (items : List ℤ) → AreCellsBack tree sums taken count items
-    → length taken ≤ count → (s : Raster) (connect : Connect) → tree ≡ tree_of s connect → sums ≡ sums_in s connect → (h : ℤ)
+    → length taken ≤ count → (s : Raster) (connect : Connect) → tree ≡ tree_of s connect → sums ≡ map (sums_of s connect) (nodes_in taken) → (h : ℤ)
     → items ≡ flat_map cells_of (sheet_rows s connect (found_of s h taken))
 all_cells tree sums taken count items are whole s connect tree_is sums_are h =
     are.made

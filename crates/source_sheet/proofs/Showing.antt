@@ -17,7 +17,8 @@ use Rattle.comp_tree.proofs.Exported.{IsAt, in_whole-at, in_whole-below, some_co
 use Rattle.node_sums.specs.Sums.{sums_of}
 use Rattle.source_pick.specs.declared.choice.Choice.{Choice}
 use Rattle.source_pick.specs.Catalogue.{catalogue, cells_of}
-use Rattle.source_pick.specs.Segmentation.{node_number_at, segmentation_of, segmentation, AreDisjointNodes}
+use Rattle.node_sums.specs.DisjointNodes.{node_number_at, AreDisjointNodes}
+use Rattle.source_pick.specs.Segmentation.{segmentation_of, segmentation}
 use Rattle.source_pick.proofs.Exported.{few_marked, few_rows}
 use Rattle.source_pick.specs.Sheets.{Part, taken_back, window_size, put_on, from_box, has_on_sheet, sheet_number}
 use Rattle.source_sheet.specs.declared.sheet.Place.{Place}

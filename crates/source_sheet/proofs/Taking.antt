@@ -28,7 +28,7 @@ use Rattle.node_sums.specs.Sums.{sums_of, sums_in}
 use Rattle.node_sums.proofs.Exported.{rows_are, length-sums_in}
 use Rattle.source_pick.specs.declared.choice.Choice.{Choice}
 use Rattle.source_pick.specs.Sources.{is_source, sources}
-use Rattle.source_pick.specs.Segmentation.{AreDisjointNodes}
+use Rattle.node_sums.specs.DisjointNodes.{AreDisjointNodes}
 use Rattle.source_pick.specs.Sheets.{Part, IsHeld, AreTakenBack, taken_back, window_size}
 use Rattle.source_pick.proofs.Exported.{first_inside, among_sources, source_from_among, sources_rise}
 use Rattle.source_sheet.specs.declared.sheet.Place.{Place}
@@ -36,7 +36,7 @@ use Rattle.source_sheet.specs.declared.sheet.Sheet.{Sheet}
 use Rattle.source_sheet.specs.declared.back.Taken.{Taken}
 use Rattle.source_sheet.specs.Laid.{windows_of, part_of, IsLaidOut, AreApartThere}
 use Rattle.source_sheet.specs.Checks.{IsInWindow}
-use Rattle.source_sheet.specs.Backs.{SheetLaws, AreOwners, IsOwned, first_in, has_owner, IsTakenAs, AreTaken, found_as, found_of, nodes_in, parts_of}
+use Rattle.source_sheet.specs.Backs.{SheetLaws, AreOwners, IsOwned, first_in, AreFirstsOf, has_owner, IsTakenAs, AreTaken, found_as, found_of, nodes_in, parts_of}
 use Rattle.source_sheet.proofs.Spots.{back_is}
 use Rattle.source_sheet.proofs.Sheeted.{IsMapped, mapped_from, among_got, placed, held_lies, held_all, held_top, IsPlacedSource, one_source}
 
@@ -133,20 +133,37 @@ first-is s connect sums n e hn =
     (subst (λ (x : ℕ). n < x) (sym (length-map (range_with_len 0 (length (nodes s connect))) (sums_of s connect) ∙ length-range_with_len 0 (length (nodes s connect)))) hn)
     ∙ ap (λ (x : Sums). x.first) (get_or-map-range_with_len (sums_of s connect) 0 (length (nodes s connect)) n n (sums_of s connect n) hn (omega arith))
 
--- the picked nodes, as the pass over them reads them
-pub picked_within : (s : Raster) (connect : Connect) (choice : Choice) (sums : List Sums) (picked : List ℕ) → IsPlane s → sums ≡ sums_in s connect
-    → picked ≡ sources s connect choice → (i n : ℕ) → slice_get picked i ≡ Some n
-    → (n < length sums) × (first_in sums n < s.shape.width * s.shape.height)
-picked_within s connect choice sums picked plane sums_are picked_are i n g =
-    let k : IsNode s connect n × IsTrue (is_source s connect choice n) =
-    source_from_among s connect choice n plane (subst (λ (ns : List ℕ). IsAmong n ns) picked_are (among_got n picked i g)) in
-    let a : length sums ≡ length (nodes s connect) = ap length sums_are ∙ length-sums_in s connect in
-    let hn : n < length (nodes s connect) = k.0 in
-    let b : (sums_of s connect n).first < length s.values =
-    below_from_defined s (sums_of s connect n).first (in_node-defined s connect n (sums_of s connect n).first (first_inside s connect n plane k.0)) in
+-- the least pixels of the picked nodes, as their own sums have them
+pub firsts_of_picked : (s : Raster) (connect : Connect) (choice : Choice) (picked : List ℕ) (own : List Sums) → IsPlane s → picked ≡ sources s connect choice
+    → own ≡ map (sums_of s connect) picked → AreFirstsOf (sums_in s connect) picked own
+firsts_of_picked s connect choice picked own plane picked_are own_are = record {
+  each = λ i n entry g k.
+      let node : IsNode s connect n × IsTrue (is_source s connect choice n) =
+      source_from_among s connect choice n plane (subst (λ (ns : List ℕ). IsAmong n ns) picked_are (among_got n picked i g)) in
+      ap (λ (x : Sums). x.first)
+      (same_Some entry (sums_of s connect n)
+      (sym k ∙ ap (λ (xs : List Sums). slice_get xs i) own_are ∙ get_mapped (sums_of s connect) picked i n g))
+      ∙ sym (first-is s connect (sums_in s connect) n refl node.0);
+}
+
+pub firsts_read : (all : List Sums) (picked picked' : List ℕ) (own own' : List Sums) → picked' ≡ picked → own' ≡ own → AreFirstsOf all picked own
+    → AreFirstsOf all picked' own'
+firsts_read all picked picked' own own' e f h =
+    subst (λ (ns : List ℕ). AreFirstsOf all ns own') (sym e) (subst (λ (ss : List Sums). AreFirstsOf all picked ss) (sym f) h)
+
+-- they are pixels of the sheet
+pub firsts_within : (s : Raster) (connect : Connect) (choice : Choice) (picked : List ℕ) (own : List Sums) → IsPlane s → picked ≡ sources s connect choice
+    → own ≡ map (sums_of s connect) picked → (i : ℕ) (entry : Sums) → slice_get own i ≡ Some entry → entry.first < s.shape.width * s.shape.height
+firsts_within s connect choice picked own plane picked_are own_are i entry g =
+    let from : (n : ℕ) × (slice_get picked i ≡ Some n) × (sums_of s connect n ≡ entry) =
+    got_mapped (sums_of s connect) picked i entry (ap (λ (xs : List Sums). slice_get xs i) (sym own_are) ∙ g) in
+    let node : IsNode s connect from.0 × IsTrue (is_source s connect choice from.0) =
+    source_from_among s connect choice from.0 plane (subst (λ (ns : List ℕ). IsAmong from.0 ns) picked_are (among_got from.0 picked i from.1)) in
+    let b : (sums_of s connect from.0).first < length s.values =
+    below_from_defined s (sums_of s connect from.0).first
+    (in_node-defined s connect from.0 (sums_of s connect from.0).first (first_inside s connect from.0 plane node.0)) in
     let e : length s.values ≡ s.shape.width * s.shape.height = plane in
-    let f : first_in sums n ≡ (sums_of s connect n).first = first-is s connect sums n sums_are k.0 in
-    (omega (arith, a, hn), omega (arith, b, e, f))
+    subst (λ (x : Sums). x.first < s.shape.width * s.shape.height) from.2 (omega (arith, b, e))
 
 distinct_from : (xs : List ℕ) → ((i j a b : ℕ) → i < j → slice_get xs i ≡ Some a → slice_get xs j ≡ Some b → a ≡ b → ⊥) → IsDistinct eqb xs
 unfolding IsDistinct

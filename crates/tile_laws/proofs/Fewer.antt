@@ -24,8 +24,9 @@ use Rattle.comp_tree.proofs.Exported.{ParentCase, IsPlace, adjacent_from, at_lea
 use Rattle.comp_tree.proofs.Exported.{child, defined_from_at_least, joined_pair, length-nodes-le, neighbours_eight, neighbours_four, node-unique}
 use Rattle.comp_tree.proofs.Exported.{node_of-is, node_of_top, parent-case, parent-of_node, reaches-is_IsReached, reaches_start, reaches_sym, representative-is}
 use Rattle.comp_tree.proofs.Exported.{representative-same, root, top-defined}
-use Rattle.node_sums.specs.declared.entry.Sums.{Sums}
-use Rattle.node_sums.specs.Sums.{sums_in, AreTheTrees}
+use Rattle.node_sums.specs.declared.outline.Outline.{Outline}
+use Rattle.node_sums.specs.Sums.{sums_in}
+use Rattle.node_sums.specs.Outlines.{outline_of, outlines_in, AreOutlinesOfTree}
 use Rattle.node_sums.proofs.Exported.{length-sums_in, level-of_node}
 use Rattle.tile_laws.specs.declared.extents.Extent.{Extent}
 use Rattle.tile_laws.specs.Extents.{box_extent}
@@ -190,18 +191,18 @@ squeezed-same p q e = go (squeezed-is p) (squeezed-is q)
 
 -- ---- entries with their numbers
 
-among_numbered : (a : ℕ) (ss : List Sums) (e : ℕ × Sums) → IsAmong e (enumerate_from a ss) → (a ≤ e.0) × (e.0 < a + length ss)
+among_numbered : (a : ℕ) (ss : List Outline) (e : ℕ × Outline) → IsAmong e (enumerate_from a ss) → (a ≤ e.0) × (e.0 < a + length ss)
 among_numbered a [] e h = absurd h
-among_numbered a (s ∷ ss) e (inl h) = let k : a ≡ e.0 = ap (λ (x : ℕ × Sums). x.0) h in (omega (arith, k), omega (arith, k))
+among_numbered a (s ∷ ss) e (inl h) = let k : a ≡ e.0 = ap (λ (x : ℕ × Outline). x.0) h in (omega (arith, k), omega (arith, k))
 among_numbered a (s ∷ ss) e (inr h) = let k = among_numbered (a + 1) ss e h in (omega (arith, k.0), omega (arith, k.1))
 
-module _ (test : ℕ × Sums → Bool) (g : ℕ × Sums → ℕ) where
-  none_same : (k : ℕ) (zs : List (ℕ × Sums)) → ((e : ℕ × Sums) → IsAmong e zs → g e ≡ k → ⊥) → AllByRecursion (λ y. k == y ≡ false) (map g zs)
+module _ (test : ℕ × Outline → Bool) (g : ℕ × Outline → ℕ) where
+  none_same : (k : ℕ) (zs : List (ℕ × Outline)) → ((e : ℕ × Outline) → IsAmong e zs → g e ≡ k → ⊥) → AllByRecursion (λ y. k == y ≡ false) (map g zs)
   none_same k [] h = tt
   none_same k (z ∷ zs) h = (ne_eqb k (g z) (λ e. h z (inl refl) (sym e)), none_same k zs (λ e m. h e (inr m)))
 
-  all_distinct : (bound : ℕ) → ((e f : ℕ × Sums) → e.0 < f.0 → f.0 < bound → test e ≡ true → test f ≡ true → g f ≡ g e → ⊥)
-      → (a : ℕ) (ss : List Sums) → a + length ss ≤ bound → IsDistinct (λ x y. x == y) (map g (filter test (enumerate_from a ss)))
+  all_distinct : (bound : ℕ) → ((e f : ℕ × Outline) → e.0 < f.0 → f.0 < bound → test e ≡ true → test f ≡ true → g f ≡ g e → ⊥)
+      → (a : ℕ) (ss : List Outline) → a + length ss ≤ bound → IsDistinct (λ x y. x == y) (map g (filter test (enumerate_from a ss)))
   unfolding IsDistinct
   all_distinct bound apart a [] few = tt
   all_distinct bound apart a (s ∷ ss) few = go (test (a, s)) refl (all_distinct bound apart (a + 1) ss (omega (arith, few)))
@@ -217,7 +218,7 @@ module _ (test : ℕ × Sums → Bool) (g : ℕ × Sums → ℕ) where
         rest,
       )
 
-  all_below : (n : ℕ) (zs : List (ℕ × Sums)) → ((e : ℕ × Sums) → IsAmong e zs → g e < n) → (q : ℕ) → list_any (λ x. q == x) (map g zs) ≡ true → q < n
+  all_below : (n : ℕ) (zs : List (ℕ × Outline)) → ((e : ℕ × Outline) → IsAmong e zs → g e < n) → (q : ℕ) → list_any (λ x. q == x) (map g zs) ≡ true → q < n
   all_below n [] h q k = absurd (true≢false (sym k))
   all_below n (z ∷ zs) h q k = go (or_cases (q == g z) (list_any (λ x. q == x) (map g zs)) k) (all_below n zs (λ e i. h e (inr i)) q)
     where
@@ -228,7 +229,7 @@ module _ (test : ℕ × Sums → Bool) (g : ℕ × Sums → ℕ) where
       go (inl e) rest = below e
       go (inr m) rest = rest m
 
-length_filtered : (test : ℕ × Sums → Bool) (zs : List (ℕ × Sums)) → length (filter test zs) ≤ length zs
+length_filtered : (test : ℕ × Outline → Bool) (zs : List (ℕ × Outline)) → length (filter test zs) ≤ length zs
 length_filtered test [] = omega arith
 length_filtered test (z ∷ zs) = go (test z) (length_filtered test zs)
   where
@@ -239,21 +240,21 @@ length_filtered test (z ∷ zs) = go (test z) (length_filtered test zs)
 -- ---- the open boxes of a window
 
 module _ (r : Raster) (connect : Connect) (plane : IsPlane r) (threshold : ℤ) (left top : ℕ) (whole : Shape) (core sure : Box) where
-  abbrev is_open : ℕ × Sums → Bool
+  abbrev is_open : ℕ × Outline → Bool
   is_open e = is_whole_node threshold (tree_of r connect).rows e.0 && not (is_box_settled whole core sure (node_box left top e.1))
 
-  abbrev place_of : ℕ × Sums → ℕ
+  abbrev place_of : ℕ × Outline → ℕ
   place_of e = squeeze (top_of r connect e.0)
 
-  opened : List (ℕ × Sums)
-  opened = filter is_open (enumerate_from 0 (sums_in r connect))
+  opened : List (ℕ × Outline)
+  opened = filter is_open (enumerate_from 0 (outlines_in r connect))
 
-  whole_from : (e : ℕ × Sums) → is_open e ≡ true → IsWholeAt threshold (tree_of r connect).rows e.0
+  whole_from : (e : ℕ × Outline) → is_open e ≡ true → IsWholeAt threshold (tree_of r connect).rows e.0
   whole_from e k =
       (whole_test_is_exact threshold (tree_of r connect).rows e.0).0
       (and_parts (is_whole_node threshold (tree_of r connect).rows e.0) (not (is_box_settled whole core sure (node_box left top e.1))) k).0
 
-  apart : 6 ≤ r.shape.width → (e f : ℕ × Sums) → e.0 < f.0 → f.0 < length (nodes r connect) → is_open e ≡ true → is_open f ≡ true
+  apart : 6 ≤ r.shape.width → (e f : ℕ × Outline) → e.0 < f.0 → f.0 < length (nodes r connect) → is_open e ≡ true → is_open f ≡ true
       → place_of f ≡ place_of e → ⊥
   apart wide e f l node k m same = go (squeezed-same (top_of r connect f.0) (top_of r connect e.0) same)
     where
@@ -279,21 +280,21 @@ module _ (r : Raster) (connect : Connect) (plane : IsPlane r) (threshold : ℤ) 
   unfolding opened
   few_opened = go (cases_lt 2147483644 (length r.values))
     where
-      counted : length (sums_in r connect) ≡ length (nodes r connect)
-      counted = length-sums_in r connect
+      counted : length (outlines_in r connect) ≡ length (nodes r connect)
+      counted = length-map (sums_in r connect) outline_of ∙ length-sums_in r connect
 
-      go : (2147483644 < length r.values) ⊎ (length r.values ≤ 2147483644) → length (filter is_open (enumerate_from 0 (sums_in r connect))) ≤ 2147483644
+      go : (2147483644 < length r.values) ⊎ (length r.values ≤ 2147483644) → length (filter is_open (enumerate_from 0 (outlines_in r connect))) ≤ 2147483644
       go (inr small) =
           omega (
             arith,
             small,
-            length_filtered is_open (enumerate_from 0 (sums_in r connect)),
-            length-enumerate_from 0 (sums_in r connect),
+            length_filtered is_open (enumerate_from 0 (outlines_in r connect)),
+            length-enumerate_from 0 (outlines_in r connect),
             counted,
             length-nodes-le r connect,
           )
       go (inl large) =
-          omega (arith, large, few, length-map (filter is_open (enumerate_from 0 (sums_in r connect))) place_of, fewer)
+          omega (arith, large, few, length-map (filter is_open (enumerate_from 0 (outlines_in r connect))) place_of, fewer)
         where
           few : length r.values ≤ 2147483647
           few = let a : r.shape.width * r.shape.height ≤ 2147483647 = r.shape.within_limits.few_pixels in omega (arith, a, plane)
@@ -308,30 +309,30 @@ module _ (r : Raster) (connect : Connect) (plane : IsPlane r) (threshold : ℤ) 
           wide : 6 ≤ r.shape.width
           wide = by_width (cases_lt r.shape.width 6)
 
-          below : (e : ℕ × Sums) → IsAmong e (filter is_open (enumerate_from 0 (sums_in r connect))) → place_of e < length r.values - 3
+          below : (e : ℕ × Outline) → IsAmong e (filter is_open (enumerate_from 0 (outlines_in r connect))) → place_of e < length r.values - 3
           below e m =
-              let place = among_numbered 0 (sums_in r connect) e (among_from_filter is_open e (enumerate_from 0 (sums_in r connect)) m).0 in
+              let place = among_numbered 0 (outlines_in r connect) e (among_from_filter is_open e (enumerate_from 0 (outlines_in r connect)) m).0 in
               squeezed-below (top_of r connect e.0) (length r.values)
               (below_from_defined r (top_of r connect e.0) (top-defined r connect e.0 (omega (arith, place.1, counted)))) (omega (arith, large))
 
-          fewer : length (map place_of (filter is_open (enumerate_from 0 (sums_in r connect)))) ≤ length r.values - 3
+          fewer : length (map place_of (filter is_open (enumerate_from 0 (outlines_in r connect)))) ≤ length r.values - 3
           fewer =
-              length-le_from_distinct_below (map place_of (filter is_open (enumerate_from 0 (sums_in r connect)))) (length r.values - 3)
-              (all_distinct is_open place_of (length (nodes r connect)) (apart wide) 0 (sums_in r connect) (omega (arith, counted)))
-              (all_below is_open place_of (length r.values - 3) (filter is_open (enumerate_from 0 (sums_in r connect))) below)
+              length-le_from_distinct_below (map place_of (filter is_open (enumerate_from 0 (outlines_in r connect)))) (length r.values - 3)
+              (all_distinct is_open place_of (length (nodes r connect)) (apart wide) 0 (outlines_in r connect) (omega (arith, counted)))
+              (all_below is_open place_of (length r.values - 3) (filter is_open (enumerate_from 0 (outlines_in r connect))) below)
 
-  few_extents : length (open_extents threshold (tree_of r connect).rows (sums_in r connect) left top whole core sure) ≤ 2147483644
+  few_extents : length (open_extents threshold (tree_of r connect).rows (outlines_in r connect) left top whole core sure) ≤ 2147483644
   unfolding open_among opened
   few_extents =
-      omega (arith, few_opened, length-map (filter is_open (enumerate_from 0 (sums_in r connect))) (λ (e : ℕ × Sums). box_extent (node_box left top e.1)))
+      omega (arith, few_opened, length-map (filter is_open (enumerate_from 0 (outlines_in r connect))) (λ (e : ℕ × Outline). box_extent (node_box left top e.1)))
 
 -- there are few of any tree
-pub few_of_tree : (tree : ComponentTree) (sums : List Sums) (threshold : ℤ) (left top : ℕ) (whole : Shape) (core sure : Box) → AreTheTrees tree sums
-    → length (open_extents threshold tree.rows sums left top whole core sure) ≤ 2147483644
-few_of_tree tree sums threshold left top whole core sure t =
-    subst (λ (x : ComponentTree). length (open_extents threshold x.rows sums left top whole core sure) ≤ 2147483644) (sym t.of_plane.tree_is)
-    (subst (λ (ss : List Sums). length (open_extents threshold (tree_of t.plane t.of_plane.connect).rows ss left top whole core sure) ≤ 2147483644)
-    (sym t.of_plane.sums_are)
+pub few_of_tree : (tree : ComponentTree) (outlines : List Outline) (threshold : ℤ) (left top : ℕ) (whole : Shape) (core sure : Box) → AreOutlinesOfTree tree outlines
+    → length (open_extents threshold tree.rows outlines left top whole core sure) ≤ 2147483644
+few_of_tree tree outlines threshold left top whole core sure t =
+    subst (λ (x : ComponentTree). length (open_extents threshold x.rows outlines left top whole core sure) ≤ 2147483644) (sym t.of_plane.tree_is)
+    (subst (λ (ss : List Outline). length (open_extents threshold (tree_of t.plane t.of_plane.connect).rows ss left top whole core sure) ≤ 2147483644)
+    (sym t.of_plane.outlines_are)
     (few_extents t.plane t.of_plane.connect t.one_each threshold left top whole core sure))
 
 -- so there are of boxes that are these

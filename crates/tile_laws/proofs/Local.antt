@@ -17,8 +17,9 @@ use Rattle.comp_tree.proofs.Exported.{AlikeAbove, IsCandidate, IsCounterpart, Is
 use Rattle.comp_tree.proofs.Exported.{at_least-from, at_least-lower, candidate-from, candidate-parts, child, counterpart, counterpart_pixels, counterpart_sym}
 use Rattle.comp_tree.proofs.Exported.{defined_from_at_least, earlier_irrefl, earlier_trans, is_representative-parts, level_from_at_least, node_of-is, ordered-in_order}
 use Rattle.comp_tree.proofs.Exported.{parent-case, parent-of_node, reaches_start, representative-is, root, top-defined}
-use Rattle.node_sums.specs.declared.entry.Sums.{Sums}
+use Rattle.node_sums.specs.declared.outline.Outline.{Outline}
 use Rattle.node_sums.specs.Sums.{greatest, least, sums_in, sums_of, sums_over}
+use Rattle.node_sums.specs.Outlines.{outline_of, outlines_in}
 use Rattle.node_sums.proofs.Exported.{level-of_node}
 use Rattle.tile_laws.specs.declared.extents.Extent.{Extent}
 use Rattle.tile_laws.specs.Extents.{box_extent}
@@ -191,12 +192,12 @@ box_over left top width ps = record {
   bottom = top + greatest (λ p. p / width + 1) ps;
 }
 
-box-is : (r : Raster) (connect : Connect) (left top n : ℕ) → node_box left top (sums_of r connect n) ≡ box_over left top r.shape.width (pixels_of r connect n)
+box-is : (r : Raster) (connect : Connect) (left top n : ℕ) → node_box left top (outline_of (sums_of r connect n)) ≡ box_over left top r.shape.width (pixels_of r connect n)
 unfolding sums_of sums_over box_over
 box-is r connect left top n = refl
 
 box_same : (r s : Raster) (connect : Connect) (h : ℤ) (left top n m : ℕ) → AlikeAbove r s h → IsCounterpart r s connect h n m
-    → node_box left top (sums_of r connect n) ≡ node_box left top (sums_of s connect m)
+    → node_box left top (outline_of (sums_of r connect n)) ≡ node_box left top (outline_of (sums_of s connect m))
 box_same r s connect h left top n m alike c =
     box-is r connect left top n ∙ ap (λ (w : ℕ). box_over left top w (pixels_of r connect n)) alike.width
     ∙ ap (box_over left top s.shape.width) (counterpart_pixels r s connect h n m alike c)
@@ -204,9 +205,9 @@ box_same r s connect h left top n m alike c =
 
 -- ---- lists
 
-numbered : (f : ℕ → Sums) (a n : ℕ) → enumerate_from a (map f (range_with_len a n)) ≡ map (λ k. (k, f k)) (range_with_len a n)
+numbered : (f : ℕ → Outline) (a n : ℕ) → enumerate_from a (map f (range_with_len a n)) ≡ map (λ k. (k, f k)) (range_with_len a n)
 numbered f a zero = refl
-numbered f a (suc n) = ap (λ (xs : List (ℕ × Sums)). (a, f a) ∷ xs) (numbered f (a + 1) n)
+numbered f a (suc n) = ap (λ (xs : List (ℕ × Outline)). (a, f a) ∷ xs) (numbered f (a + 1) n)
 
 filter_of_map : {X Y : Type 0} (test : Y → Bool) (g : X → Y) (xs : List X) → filter test (map g xs) ≡ map g (filter (λ x. test (g x)) xs)
 filter_of_map test g [] = refl
@@ -234,27 +235,28 @@ filter_both p q (x ∷ xs) = go (p x) (filter_both p q xs)
 
 module _ (r : Raster) (connect : Connect) (h : ℤ) (left top : ℕ) (whole : Shape) (core sure : Box) where
   abbrev box_at : ℕ → Extent
-  box_at n = box_extent (node_box left top (sums_of r connect n))
+  box_at n = box_extent (node_box left top (outline_of (sums_of r connect n)))
 
   abbrev is_loose : ℕ → Bool
-  is_loose n = not (is_box_settled whole core sure (node_box left top (sums_of r connect n)))
+  is_loose n = not (is_box_settled whole core sure (node_box left top (outline_of (sums_of r connect n))))
 
-  by_numbers : open_extents h (tree_of r connect).rows (sums_in r connect) left top whole core sure ≡ map box_at (filter is_loose (whole_numbers r connect h))
+  by_numbers : open_extents h (tree_of r connect).rows (outlines_in r connect) left top whole core sure ≡ map box_at (filter is_loose (whole_numbers r connect h))
   unfolding open_among sums_in
   by_numbers =
-      ap (λ (es : List (ℕ × Sums)). map (λ e. box_extent (node_box left top e.1))
+      ap (λ (es : List (ℕ × Outline)). map (λ e. box_extent (node_box left top e.1))
       (filter (λ e. is_whole_node h (tree_of r connect).rows e.0 && not (is_box_settled whole core sure (node_box left top e.1))) es))
-      (numbered (sums_of r connect) 0 (length (nodes r connect)))
-      ∙ ap (map (λ (e : ℕ × Sums). box_extent (node_box left top e.1)))
-      (filter_of_map (λ (e : ℕ × Sums). is_whole_node h (tree_of r connect).rows e.0 && not (is_box_settled whole core sure (node_box left top e.1)))
-      (λ k. (k, sums_of r connect k)) (node_numbers r connect))
-      ∙ map_of_map (λ (e : ℕ × Sums). box_extent (node_box left top e.1)) (λ k. (k, sums_of r connect k))
+      (ap (enumerate_from 0) (map_of_map outline_of (sums_of r connect) (node_numbers r connect))
+      ∙ numbered (λ k. outline_of (sums_of r connect k)) 0 (length (nodes r connect)))
+      ∙ ap (map (λ (e : ℕ × Outline). box_extent (node_box left top e.1)))
+      (filter_of_map (λ (e : ℕ × Outline). is_whole_node h (tree_of r connect).rows e.0 && not (is_box_settled whole core sure (node_box left top e.1)))
+      (λ k. (k, outline_of (sums_of r connect k))) (node_numbers r connect))
+      ∙ map_of_map (λ (e : ℕ × Outline). box_extent (node_box left top e.1)) (λ k. (k, outline_of (sums_of r connect k)))
       (filter (λ n. is_whole_node h (tree_of r connect).rows n && is_loose n) (node_numbers r connect))
       ∙ ap (map box_at) (filter_both (is_whole_node h (tree_of r connect).rows) is_loose (node_numbers r connect))
 
 pub open_alike : (r s : Raster) (connect : Connect) (h : ℤ) (left top : ℕ) (whole : Shape) (core sure : Box) → IsPlane r → IsPlane s → AlikeAbove r s h
-    → open_extents h (tree_of r connect).rows (sums_in r connect) left top whole core sure
-    ≡ open_extents h (tree_of s connect).rows (sums_in s connect) left top whole core sure
+    → open_extents h (tree_of r connect).rows (outlines_in r connect) left top whole core sure
+    ≡ open_extents h (tree_of s connect).rows (outlines_in s connect) left top whole core sure
 open_alike r s connect h left top whole core sure plane other alike =
     by_numbers r connect h left top whole core sure
     ∙ paired_map (IsCounterpart r s connect h) (box_at r connect h left top whole core sure) (box_at s connect h left top whole core sure)

@@ -21,7 +21,8 @@ use Rattle.source_pick.specs.declared.catalogue.CatRow.{CatRow}
 use Rattle.source_pick.specs.Sources.{is_source, sources}
 use Rattle.source_pick.specs.Catalogue.{measured_row, catalogue_row}
 use Rattle.source_pick.specs.Laws.{SourcesAreDisjoint}
-use Rattle.source_pick.specs.Segmentation.{node_number_at, segmentation_of, segmentation}
+use Rattle.node_sums.specs.DisjointNodes.{listed_number_at}
+use Rattle.source_pick.specs.Segmentation.{segmentation_of, segmentation}
 use Rattle.source_pick.specs.Catalogue.{moved_row}
 use Rattle.source_pick.specs.Windows.{IsTileOf}
 use Rattle.tile_laws.specs.Pieces.{DetectionChoice, Piece, searched, mapped, AnswersForCore, CoversImage, first_pixel, IsFromPiece, AreMerged, row_with_number}
@@ -117,11 +118,11 @@ module _ (laws : MapLaws) (s : Raster) (connect : Connect) (choice : Choice) (pl
 
   map_length : length (segmentation s connect choice) ≡ length s.values
   unfolding segmentation segmentation_of
-  map_length = length-map (pixels s) (node_number_at s connect picked) ∙ length-pixels s
+  map_length = length-map (pixels s) (listed_number_at s connect picked) ∙ length-pixels s
 
   map_at : (q : ℕ) → q < length s.values → slice_index (segmentation s connect choice) q ≡ number_from (λ n. is_in_node s connect n q) 1 picked
-  unfolding segmentation segmentation_of node_number_at pixels
-  map_at q l = get_or-map-range_with_len (node_number_at s connect picked) 0 (length s.values) q q 0 l (omega arith)
+  unfolding segmentation segmentation_of listed_number_at pixels
+  map_at q l = get_or-map-range_with_len (listed_number_at s connect picked) 0 (length s.values) q q 0 l (omega arith)
 
   -- the source that a pixel of the map names
   pub record IsNamed (q k : ℕ) : Type 0 where

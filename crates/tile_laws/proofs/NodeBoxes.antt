@@ -4,6 +4,7 @@ use Rattle.std.specs.Prelude.{IsTrue, true, ℤ, ◌≤ℤ◌, ◌<ℤ◌, int_l
 use Rattle.std.specs.List.{All}
 use Rattle.std.proofs.lemmas.List.Elements.{All-nil, All-push, All-same}
 use Rattle.std.proofs.lemmas.Nat.{mod_below}
+use Rattle.std.proofs.lemmas.List.{get_or-map, length-map}
 use Rattle.std.proofs.lemmas.List.FromFn.{get_or-map-range_with_len}
 use Rattle.std.proofs.lemmas.Option.{get_or_from_slice_get, slice_get-get_or}
 use Rattle.std.proofs.lemmas.Bool.{cases_lt}
@@ -22,9 +23,10 @@ use Rattle.comp_tree.proofs.Exported.{length-rows, row_below}
 use Rattle.comp_tree.proofs.Exported.{IsCandidate, IsPlace, ParentCase, candidate-parts, child, defined_from_at_least, level_from_at_least, node_of-is}
 use Rattle.comp_tree.proofs.Exported.{parent-case, parent-of_node, reaches_end, reaches_here, reaches_lower, reaches_start, reaches_sym, reaches_trans}
 use Rattle.comp_tree.proofs.Exported.{reaches-is_IsReached, representative-is, root, shape-of, top_inside}
-use Rattle.node_sums.specs.declared.entry.Sums.{Sums}
-use Rattle.node_sums.specs.Sums.{sums_of, sums_in, sums_over, x_of, y_of, least, AreTheTrees}
-use Rattle.node_sums.proofs.Exported.{level-of_node, least_at_most, greatest_at_least, greatest_up_to, length-sums_in, trees_rows}
+use Rattle.node_sums.specs.declared.outline.Outline.{Outline}
+use Rattle.node_sums.specs.Sums.{sums_of, sums_in, sums_over, x_of, y_of, least}
+use Rattle.node_sums.specs.Outlines.{outline_of, outlines_in, AreOutlinesOfTree}
+use Rattle.node_sums.proofs.Exported.{level-of_node, least_at_most, greatest_at_least, greatest_up_to, length-sums_in, outlines_rows}
 use Rattle.tile_laws.specs.Knowing.{HasBoxIn, node_box, AreSettled, BoxesTellTheCore, DoMeet, IsUnsettled, IsSettled, IsWholeAt, KnownCoresAreAnswered}
 use Rattle.tile_laws.specs.declared.extents.Extent.{Extent}
 use Rattle.tile_laws.specs.Extents.{extent_box}
@@ -40,13 +42,13 @@ least_from f k (q ∷ ps) few h =
     omega arith
 
 -- where a pixel of a node stands
-record IsInBox (r : Raster) (s : Sums) (p : ℕ) : Type 0 where
+record IsInBox (r : Raster) (s : Outline) (p : ℕ) : Type 0 where
   left : s.xmin ≤ p % r.shape.width + 1
   right : p % r.shape.width + 1 ≤ s.xmax
   top : s.ymin ≤ p / r.shape.width + 1
   bottom : p / r.shape.width + 1 ≤ s.ymax
 
-in_box : (r : Raster) (connect : Connect) (n p : ℕ) → is_in_node r connect n p ≡ true → IsInBox r (sums_of r connect n) p
+in_box : (r : Raster) (connect : Connect) (n p : ℕ) → is_in_node r connect n p ≡ true → IsInBox r (outline_of (sums_of r connect n)) p
 unfolding sums_of sums_over
 in_box r connect n p k = record {
   left = least_at_most (x_of r) (pixels_of r connect n) p there;
@@ -58,7 +60,7 @@ in_box r connect n p k = record {
     there : IsAmong p (pixels_of r connect n)
     there = among_pixels r connect n p k
 
-pub box_in : (r : Raster) (connect : Connect) (n : ℕ) → IsPlane r → n < length (nodes r connect) → HasBoxIn r.shape (sums_of r connect n)
+pub box_in : (r : Raster) (connect : Connect) (n : ℕ) → IsPlane r → n < length (nodes r connect) → HasBoxIn r.shape (outline_of (sums_of r connect n))
 unfolding sums_of sums_over
 box_in r connect n plane hn = record {
   left = let a : 1 ≤ least (x_of r) (pixels_of r connect n) = least_from (x_of r) 1 (pixels_of r connect n) (omega arith) (λ p m. omega arith) in omega (arith, a);
@@ -88,17 +90,20 @@ box_in r connect n plane hn = record {
 
 -- ---- the entries of a tree's nodes
 
-entry_read : (r : Raster) (connect : Connect) (n : ℕ) (d : Sums) → n < length (nodes r connect) → get_or (sums_in r connect) n d ≡ sums_of r connect n
+entry_read : (r : Raster) (connect : Connect) (n : ℕ) (d : Outline) → n < length (nodes r connect)
+    → get_or (outlines_in r connect) n d ≡ outline_of (sums_of r connect n)
 unfolding sums_in
-entry_read r connect n d h = get_or-map-range_with_len (sums_of r connect) 0 (length (nodes r connect)) n n d h (omega arith)
+entry_read r connect n d h =
+    get_or-map outline_of (sums_in r connect) n (sums_of r connect n) d (omega (arith, h, length-sums_in r connect))
+    ∙ ap outline_of (get_or-map-range_with_len (sums_of r connect) 0 (length (nodes r connect)) n n (sums_of r connect n) h (omega arith))
 
-pub entry_inside : (tree : ComponentTree) (sums : List Sums) (n : ℕ) → AreTheTrees tree sums → n < length tree.rows → n < length sums
-entry_inside tree sums n t h = omega (arith, h, trees_rows tree sums t)
+pub entry_inside : (tree : ComponentTree) (outlines : List Outline) (n : ℕ) → AreOutlinesOfTree tree outlines → n < length tree.rows → n < length outlines
+entry_inside tree outlines n t h = omega (arith, h, outlines_rows tree outlines t)
 
-pub boxed : (tree : ComponentTree) (sums : List Sums) (n : ℕ) (d : Sums) → AreTheTrees tree sums → n < length tree.rows → HasBoxIn tree.shape (get_or sums n d)
-boxed tree sums n d t h =
-    subst (λ (s : Shape). HasBoxIn s (get_or sums n d)) (sym shape)
-    (subst (λ (e : Sums). HasBoxIn t.plane.shape e) (sym entry) (box_in t.plane t.of_plane.connect n t.one_each node))
+pub boxed : (tree : ComponentTree) (outlines : List Outline) (n : ℕ) (d : Outline) → AreOutlinesOfTree tree outlines → n < length tree.rows → HasBoxIn tree.shape (get_or outlines n d)
+boxed tree outlines n d t h =
+    subst (λ (s : Shape). HasBoxIn s (get_or outlines n d)) (sym shape)
+    (subst (λ (e : Outline). HasBoxIn t.plane.shape e) (sym entry) (box_in t.plane t.of_plane.connect n t.one_each node))
   where
     node : n < length (nodes t.plane t.of_plane.connect)
     node = omega (arith, h, ap (λ (x : ComponentTree). length x.rows) t.of_plane.tree_is, length-rows t.plane t.of_plane.connect)
@@ -106,17 +111,19 @@ boxed tree sums n d t h =
     shape : tree.shape ≡ t.plane.shape
     shape = ap (λ (x : ComponentTree). x.shape) t.of_plane.tree_is ∙ shape-of t.plane t.of_plane.connect
 
-    entry : get_or sums n d ≡ sums_of t.plane t.of_plane.connect n
-    entry = ap (λ (xs : List Sums). get_or xs n d) t.of_plane.sums_are ∙ entry_read t.plane t.of_plane.connect n d node
+    entry : get_or outlines n d ≡ outline_of (sums_of t.plane t.of_plane.connect n)
+    entry = ap (λ (xs : List Outline). get_or xs n d) t.of_plane.outlines_are ∙ entry_read t.plane t.of_plane.connect n d node
 
 -- ---- the components of the core
 
-entry_at : (s : Raster) (connect : Connect) (n : ℕ) → n < length (nodes s connect) → slice_get (sums_in s connect) n ≡ Some (sums_of s connect n)
+entry_at : (s : Raster) (connect : Connect) (n : ℕ) → n < length (nodes s connect)
+    → slice_get (outlines_in s connect) n ≡ Some (outline_of (sums_of s connect n))
 entry_at s connect n h =
-    slice_get-get_or (sums_in s connect) n (sums_of s connect n) (omega (arith, h, length-sums_in s connect))
-    ∙ ap Some (entry_read s connect n (sums_of s connect n) h)
+    slice_get-get_or (outlines_in s connect) n (outline_of (sums_of s connect n))
+    (omega (arith, h, length-map (sums_in s connect) outline_of, length-sums_in s connect))
+    ∙ ap Some (entry_read s connect n (outline_of (sums_of s connect n)) h)
 
-module _ (s : Raster) (whole : Shape) (w : Window) (core : Box) (e : Sums) (shape : s.shape ≡ w.shape) (inside : IsInside whole w) where
+module _ (s : Raster) (whole : Shape) (w : Window) (core : Box) (e : Outline) (shape : s.shape ≡ w.shape) (inside : IsInside whole w) where
   wide : s.shape.width ≡ w.shape.width
   wide = ap (λ (x : Shape). x.width) shape
 
@@ -219,10 +226,10 @@ boxes_tell_the_core s connect h whole w core sure plane shape inside settled q b
   where
     go : (n : ℕ) × IsNode s connect n × ((x : ℕ) → IsReached s connect h q x ↔ IsIn s connect n x) → IsDeepIn whole sure (in_whole whole.width w b)
     go (n, node, same) =
-        settled n (sums_of s connect n) (omega (arith, node, length-rows s connect)) (entry_at s connect n node) (whole_at s connect h q n high node same)
-        (meets s whole w core (sums_of s connect n) shape inside q (in_box s connect n q ((same q).0 itself)) in_core)
+        settled n (outline_of (sums_of s connect n)) (omega (arith, node, length-rows s connect)) (entry_at s connect n node) (whole_at s connect h q n high node same)
+        (meets s whole w core (outline_of (sums_of s connect n)) shape inside q (in_box s connect n q ((same q).0 itself)) in_core)
         (in_whole whole.width w b)
-        (there s whole w core (sums_of s connect n) shape inside b (in_box s connect n b ((same b).0 path)))
+        (there s whole w core (outline_of (sums_of s connect n)) shape inside b (in_box s connect n b ((same b).0 path)))
       where
         itself : IsReached s connect h q q
         itself = (reaches-is_IsReached s connect h q q).0 (reaches_here s connect h q high)
@@ -237,60 +244,60 @@ known_cores_are_answered d r t core box inside on_mesh core_in core_sure box_sur
 
 -- ---- the loop over the nodes
 
-module _ (threshold : ℤ) (rows : List NodeRow) (sums : List Sums) (left top : ℕ) (whole : Shape) (core sure : Box) (n : ℕ) (e : Sums) where
+module _ (threshold : ℤ) (rows : List NodeRow) (outlines : List Outline) (left top : ℕ) (whole : Shape) (core sure : Box) (n : ℕ) (e : Outline) where
   -- one node more that is settled
-  pub settled_more : AreSettled threshold rows sums left top whole core sure n
-      → (IsWholeAt threshold rows n → IsSettled whole core sure (node_box left top (get_or sums n e)))
-      → AreSettled threshold rows sums left top whole core sure (n + 1)
+  pub settled_more : AreSettled threshold rows outlines left top whole core sure n
+      → (IsWholeAt threshold rows n → IsSettled whole core sure (node_box left top (get_or outlines n e)))
+      → AreSettled threshold rows outlines left top whole core sure (n + 1)
   settled_more before known m entry below entry_is is_whole = go (cases_lt m n)
     where
       go : (m < n) ⊎ (n ≤ m) → IsSettled whole core sure (node_box left top entry)
       go (inl l) = before m entry l entry_is is_whole
       go (inr g) =
           let m_is : m ≡ n = omega (arith, g, below) in
-          let entry_same : get_or sums n e ≡ entry =
-          get_or_from_slice_get sums n entry e (subst (λ (k : ℕ). slice_get sums k ≡ Some entry) m_is entry_is) in
-          subst (λ (x : Sums). IsSettled whole core sure (node_box left top x)) entry_same
+          let entry_same : get_or outlines n e ≡ entry =
+          get_or_from_slice_get outlines n entry e (subst (λ (k : ℕ). slice_get outlines k ≡ Some entry) m_is entry_is) in
+          subst (λ (x : Outline). IsSettled whole core sure (node_box left top x)) entry_same
           (known (subst (λ (k : ℕ). IsWholeAt threshold rows k) m_is is_whole))
 
   -- and one that isn't
-  pub unsettled_at : n < length sums → IsWholeAt threshold rows n → (box : Box) → box ≡ node_box left top (get_or sums n e)
-      → (IsSettled whole core sure box → ⊥) → IsUnsettled threshold rows sums left top whole core sure box
+  pub unsettled_at : n < length outlines → IsWholeAt threshold rows n → (box : Box) → box ≡ node_box left top (get_or outlines n e)
+      → (IsSettled whole core sure box → ⊥) → IsUnsettled threshold rows outlines left top whole core sure box
   unsettled_at inside is_whole box same unsettled = record {
     node = n;
-    entry = get_or sums n e;
-    entry_at = slice_get-get_or sums n e inside;
+    entry = get_or outlines n e;
+    entry_at = slice_get-get_or outlines n e inside;
     is_whole = is_whole;
     box_is = same;
     unsettled = unsettled;
   }
 
-pub settled_up_to : (threshold : ℤ) (rows : List NodeRow) (sums : List Sums) (left top : ℕ) (whole : Shape) (core sure : Box) (count n : ℕ) → count ≤ n
-    → AreSettled threshold rows sums left top whole core sure n → AreSettled threshold rows sums left top whole core sure count
-settled_up_to threshold rows sums left top whole core sure count n few settled m entry below = settled m entry (omega (arith, few, below))
+pub settled_up_to : (threshold : ℤ) (rows : List NodeRow) (outlines : List Outline) (left top : ℕ) (whole : Shape) (core sure : Box) (count n : ℕ) → count ≤ n
+    → AreSettled threshold rows outlines left top whole core sure n → AreSettled threshold rows outlines left top whole core sure count
+settled_up_to threshold rows outlines left top whole core sure count n few settled m entry below = settled m entry (omega (arith, few, below))
 
 -- the boxes that were found among the first n nodes
-abbrev pub AreOpenBoxes : ℤ → List NodeRow → List Sums → ℕ → ℕ → Shape → Box → Box → ℕ → List Extent → Type 0
-AreOpenBoxes threshold rows sums left top whole core sure n boxes =
-    (boxes ≡ [] → AreSettled threshold rows sums left top whole core sure n)
-    × All (λ found. IsUnsettled threshold rows sums left top whole core sure (extent_box found)) boxes
+abbrev pub AreOpenBoxes : ℤ → List NodeRow → List Outline → ℕ → ℕ → Shape → Box → Box → ℕ → List Extent → Type 0
+AreOpenBoxes threshold rows outlines left top whole core sure n boxes =
+    (boxes ≡ [] → AreSettled threshold rows outlines left top whole core sure n)
+    × All (λ found. IsUnsettled threshold rows outlines left top whole core sure (extent_box found)) boxes
 
-module _ (threshold : ℤ) (rows : List NodeRow) (sums : List Sums) (left top : ℕ) (whole : Shape) (core sure : Box) (n : ℕ) (e : Sums) (boxes now : List Extent)
-    (before : AreOpenBoxes threshold rows sums left top whole core sure n boxes) where
-  pub none_opened : now ≡ boxes → (IsWholeAt threshold rows n → IsSettled whole core sure (node_box left top (get_or sums n e)))
-      → AreOpenBoxes threshold rows sums left top whole core sure (n + 1) now
+module _ (threshold : ℤ) (rows : List NodeRow) (outlines : List Outline) (left top : ℕ) (whole : Shape) (core sure : Box) (n : ℕ) (e : Outline) (boxes now : List Extent)
+    (before : AreOpenBoxes threshold rows outlines left top whole core sure n boxes) where
+  pub none_opened : now ≡ boxes → (IsWholeAt threshold rows n → IsSettled whole core sure (node_box left top (get_or outlines n e)))
+      → AreOpenBoxes threshold rows outlines left top whole core sure (n + 1) now
   none_opened same known =
-      subst (λ (xs : List Extent). AreOpenBoxes threshold rows sums left top whole core sure (n + 1) xs) (sym same)
-      (λ none. settled_more threshold rows sums left top whole core sure n e (before.0 none) known, before.1)
+      subst (λ (xs : List Extent). AreOpenBoxes threshold rows outlines left top whole core sure (n + 1) xs) (sym same)
+      (λ none. settled_more threshold rows outlines left top whole core sure n e (before.0 none) known, before.1)
 
-  pub one_opened : (part : Extent) → now ≡ boxes ++ part ∷ [] → n < length sums → IsWholeAt threshold rows n
-      → extent_box part ≡ node_box left top (get_or sums n e) → (IsSettled whole core sure (extent_box part) → ⊥)
-      → AreOpenBoxes threshold rows sums left top whole core sure (n + 1) now
+  pub one_opened : (part : Extent) → now ≡ boxes ++ part ∷ [] → n < length outlines → IsWholeAt threshold rows n
+      → extent_box part ≡ node_box left top (get_or outlines n e) → (IsSettled whole core sure (extent_box part) → ⊥)
+      → AreOpenBoxes threshold rows outlines left top whole core sure (n + 1) now
   one_opened part same inside is_whole box unsettled =
-      subst (λ (xs : List Extent). AreOpenBoxes threshold rows sums left top whole core sure (n + 1) xs) (sym same) (
+      subst (λ (xs : List Extent). AreOpenBoxes threshold rows outlines left top whole core sure (n + 1) xs) (sym same) (
         λ none. absurd (not_none boxes none),
-        All-push (λ found. IsUnsettled threshold rows sums left top whole core sure (extent_box found)) boxes part before.1
-            (unsettled_at threshold rows sums left top whole core sure n e inside is_whole (extent_box part) box unsettled),
+        All-push (λ found. IsUnsettled threshold rows outlines left top whole core sure (extent_box found)) boxes part before.1
+            (unsettled_at threshold rows outlines left top whole core sure n e inside is_whole (extent_box part) box unsettled),
       )
     where
       not_none : (xs : List Extent) → xs ++ part ∷ [] ≡ [] → ⊥
@@ -298,24 +305,24 @@ module _ (threshold : ℤ) (rows : List NodeRow) (sums : List Sums) (left top : 
       not_none (x ∷ xs) e = cc
 
 -- a node that is no whole component opens none
-pub passed_over : (threshold : ℤ) (rows : List NodeRow) (sums : List Sums) (left top : ℕ) (whole : Shape) (core sure : Box) (n : ℕ) (boxes now : List Extent)
-    → AreOpenBoxes threshold rows sums left top whole core sure n boxes → now ≡ boxes → (IsWholeAt threshold rows n → ⊥)
-    → AreOpenBoxes threshold rows sums left top whole core sure (n + 1) now
-passed_over threshold rows sums left top whole core sure n boxes now before same other =
-    subst (λ (xs : List Extent). AreOpenBoxes threshold rows sums left top whole core sure (n + 1) xs) (sym same)
+pub passed_over : (threshold : ℤ) (rows : List NodeRow) (outlines : List Outline) (left top : ℕ) (whole : Shape) (core sure : Box) (n : ℕ) (boxes now : List Extent)
+    → AreOpenBoxes threshold rows outlines left top whole core sure n boxes → now ≡ boxes → (IsWholeAt threshold rows n → ⊥)
+    → AreOpenBoxes threshold rows outlines left top whole core sure (n + 1) now
+passed_over threshold rows outlines left top whole core sure n boxes now before same other =
+    subst (λ (xs : List Extent). AreOpenBoxes threshold rows outlines left top whole core sure (n + 1) xs) (sym same)
     (λ none m entry below entry_is is_whole. settled m entry (cases_lt m n) none below entry_is is_whole, before.1)
   where
-    settled : (m : ℕ) (entry : Sums) → (m < n) ⊎ (n ≤ m) → boxes ≡ [] → m < n + 1 → slice_get sums m ≡ Some entry → IsWholeAt threshold rows m
+    settled : (m : ℕ) (entry : Outline) → (m < n) ⊎ (n ≤ m) → boxes ≡ [] → m < n + 1 → slice_get outlines m ≡ Some entry → IsWholeAt threshold rows m
         → IsSettled whole core sure (node_box left top entry)
     settled m entry (inl l) none below entry_is is_whole = before.0 none m entry l entry_is is_whole
     settled m entry (inr g) none below entry_is is_whole =
         absurd (other (subst (λ (k : ℕ). IsWholeAt threshold rows k) (omega (arith, g, below)) is_whole))
 
 -- of no node is anything to be said
-pub nothing_opened : (threshold : ℤ) (rows : List NodeRow) (sums : List Sums) (left top : ℕ) (whole : Shape) (core sure : Box) (now : List Extent) → now ≡ []
-    → AreOpenBoxes threshold rows sums left top whole core sure 0 now
-nothing_opened threshold rows sums left top whole core sure now none = (
+pub nothing_opened : (threshold : ℤ) (rows : List NodeRow) (outlines : List Outline) (left top : ℕ) (whole : Shape) (core sure : Box) (now : List Extent) → now ≡ []
+    → AreOpenBoxes threshold rows outlines left top whole core sure 0 now
+nothing_opened threshold rows outlines left top whole core sure now none = (
   (λ same m entry below. absurd (omega (arith, below))),
-  All-same (λ found. IsUnsettled threshold rows sums left top whole core sure (extent_box found)) now [] none
-      (All-nil (λ found. IsUnsettled threshold rows sums left top whole core sure (extent_box found))),
+  All-same (λ found. IsUnsettled threshold rows outlines left top whole core sure (extent_box found)) now [] none
+      (All-nil (λ found. IsUnsettled threshold rows outlines left top whole core sure (extent_box found))),
 )

@@ -9,13 +9,13 @@ use Rattle.comp_tree.specs.Nesting.{level_in}
 use Rattle.comp_tree.specs.Components.{IsReached, tree_of}
 use Rattle.comp_tree.specs.Windows.{Window, Box, IsInside, in_whole, is_in_box, seen_through, IsDeepIn}
 use Rattle.mesh_background.specs.Windows.{IsOnMesh}
-use Rattle.node_sums.specs.declared.entry.Sums.{Sums}
-use Rattle.node_sums.specs.Sums.{sums_in}
+use Rattle.node_sums.specs.declared.outline.Outline.{Outline}
+use Rattle.node_sums.specs.Outlines.{outlines_in}
 use Rattle.tile_laws.specs.Clear.{IsSureBox}
 use Rattle.tile_laws.specs.Pieces.{DetectionChoice, Piece, searched, LiesInSureBox, AnswersForCore}
 
--- the sums are over some pixels of a plane of this shape: their box isn't empty, and lies in it
-pub record HasBoxIn (shape : Shape) (s : Sums) : Type 0 where
+-- the outline is of some pixels of a plane of this shape: its box isn't empty, and lies in it
+pub record HasBoxIn (shape : Shape) (s : Outline) : Type 0 where
   pub left : 0 < s.xmin
   pub columns : s.xmin ≤ s.xmax
   pub right : s.xmax ≤ shape.width
@@ -23,8 +23,8 @@ pub record HasBoxIn (shape : Shape) (s : Sums) : Type 0 where
   pub rows : s.ymin ≤ s.ymax
   pub bottom : s.ymax ≤ shape.height
 
--- the box of a node in the image, where the window's first pixel stands in this column and row: sums count from 1
-abbrev pub node_box : ℕ → ℕ → Sums → Box
+-- the box of a node in the image, where the window's first pixel stands in this column and row: outlines count from 1
+abbrev pub node_box : ℕ → ℕ → Outline → Box
 node_box left top s = record {
   left = left + s.xmin - 1;
   right = left + s.xmax;
@@ -53,15 +53,15 @@ pub record IsWholeAt (threshold : ℤ) (rows : List NodeRow) (n : ℕ) : Type 0 
   pub lowest : (parent_in rows n ≡ no_node) ⊎ (level_in rows (parent_in rows n) <ℤ threshold)
 
 -- of the first nodes those that are whole components at the threshold have such boxes
-abbrev pub AreSettled : ℤ → List NodeRow → List Sums → ℕ → ℕ → Shape → Box → Box → ℕ → Type 0
-AreSettled threshold rows sums left top whole core sure count = (n : ℕ) (entry : Sums) → n < count → slice_get sums n ≡ Some entry
+abbrev pub AreSettled : ℤ → List NodeRow → List Outline → ℕ → ℕ → Shape → Box → Box → ℕ → Type 0
+AreSettled threshold rows outlines left top whole core sure count = (n : ℕ) (entry : Outline) → n < count → slice_get outlines n ≡ Some entry
     → IsWholeAt threshold rows n → IsSettled whole core sure (node_box left top entry)
 
 -- node n is one, and its box isn't so
-pub record IsUnsettled (threshold : ℤ) (rows : List NodeRow) (sums : List Sums) (left top : ℕ) (whole : Shape) (core sure box : Box) : Type 0 where
+pub record IsUnsettled (threshold : ℤ) (rows : List NodeRow) (outlines : List Outline) (left top : ℕ) (whole : Shape) (core sure box : Box) : Type 0 where
   pub node : ℕ
-  pub entry : Sums
-  pub entry_at : slice_get sums node ≡ Some entry
+  pub entry : Outline
+  pub entry_at : slice_get outlines node ≡ Some entry
   pub is_whole : IsWholeAt threshold rows node
   pub box_is : box ≡ node_box left top entry
   pub unsettled : IsSettled whole core sure box → ⊥
@@ -76,7 +76,7 @@ KnowsItsCore s connect h whole w core sure = (q b : ℕ) → IsTrue (is_in_box w
 -- so it does where the boxes of these nodes are so
 abbrev pub BoxesTellTheCore : Type 0
 BoxesTellTheCore = (s : Raster) (connect : Connect) (h : ℤ) (whole : Shape) (w : Window) (core sure : Box) → IsPlane s → s.shape ≡ w.shape
-    → IsInside whole w → AreSettled h (tree_of s connect).rows (sums_in s connect) w.left w.top whole core sure (length (tree_of s connect).rows)
+    → IsInside whole w → AreSettled h (tree_of s connect).rows (outlines_in s connect) w.left w.top whole core sure (length (tree_of s connect).rows)
     → KnowsItsCore s connect h whole w core sure
 
 -- and a piece answers for its core where this lies in a box that its window knows, and the core's pixels and the box round them lie in sure boxes

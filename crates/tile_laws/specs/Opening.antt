@@ -6,7 +6,7 @@ use Rattle.comp_tree.specs.declared.tree.NodeRow.{NodeRow}
 use Rattle.comp_tree.specs.ComponentTree.{no_node, parent_in}
 use Rattle.comp_tree.specs.Nesting.{level_in}
 use Rattle.comp_tree.specs.Windows.{Box}
-use Rattle.node_sums.specs.declared.entry.Sums.{Sums}
+use Rattle.node_sums.specs.declared.outline.Outline.{Outline}
 use Rattle.tile_laws.specs.declared.extents.Extent.{Extent}
 use Rattle.tile_laws.specs.Clear.{IsBoxWithin}
 use Rattle.tile_laws.specs.Extents.{box_extent}
@@ -40,15 +40,15 @@ is_box_settled whole core sure box =
 
 -- ---- the boxes
 
--- of some nodes, each with its number and its sums, those that are whole components at the threshold and whose boxes aren't settled: these boxes
-unfoldable pub open_among : ℤ → List NodeRow → ℕ → ℕ → Shape → Box → Box → List (ℕ × Sums) → List Extent
+-- of some nodes, each with its number and its outline, those that are whole components at the threshold and whose boxes aren't settled: these boxes
+unfoldable pub open_among : ℤ → List NodeRow → ℕ → ℕ → Shape → Box → Box → List (ℕ × Outline) → List Extent
 open_among threshold rows left top whole core sure entries =
     map (λ e. box_extent (node_box left top e.1))
     (filter (λ e. is_whole_node threshold rows e.0 && not (is_box_settled whole core sure (node_box left top e.1))) entries)
 
 -- of all nodes of a tree, in the order of their numbers
-abbrev pub open_extents : ℤ → List NodeRow → List Sums → ℕ → ℕ → Shape → Box → Box → List Extent
-open_extents threshold rows sums left top whole core sure = open_among threshold rows left top whole core sure (enumerate_from 0 sums)
+abbrev pub open_extents : ℤ → List NodeRow → List Outline → ℕ → ℕ → Shape → Box → Box → List Extent
+open_extents threshold rows outlines left top whole core sure = open_among threshold rows left top whole core sure (enumerate_from 0 outlines)
 
 -- a box of an image, which isn't empty
 pub record IsBoxOf (whole : Shape) (box : Box) : Type 0 where

@@ -5,7 +5,7 @@ ghost use Rattle.std.specs.Prelude.{◌≡◌, ℕ, ◌+◌, ◌-◌, ◌<◌, �
 ghost use Rattle.std.specs.List.{All};
 ghost use Rattle.comp_tree.specs.Nesting.{level_in};
 ghost use Rattle.comp_tree.specs.Windows.{IsInside};
-ghost use Rattle.node_sums.specs.Sums.{AreTheTrees};
+ghost use Rattle.node_sums.specs.Outlines.{AreOutlinesOfTree};
 ghost use Rattle.source_sheet.specs.Laid.{window_at};
 ghost use Rattle.tile_laws.specs.Extents.{extent_box};
 ghost use Rattle.tile_laws.specs.Knowing.{HasBoxIn, node_box, DoMeet, IsSettled, IsWholeAt, AreSettled, IsUnsettled};
@@ -15,7 +15,7 @@ ghost use Rattle.tile_laws.specs.Boxed.{DoMeetAlong};
 use crate::extents::{Extent, Interval, lies_deep};
 use comp_tree::{NONE, Shape, Tree};
 use costs::OutOfMemory;
-use node_sums::Sums;
+use node_sums::Outline;
 use source_pick::Choice;
 use std::alloc::Global;
 
@@ -33,27 +33,27 @@ pub struct WindowPlace {
 pub fn open_boxes(
     alloc: Global,
     tree: &Tree,
-    sums: &[Sums],
+    outlines: &[Outline],
     choice: &Choice,
     place: &WindowPlace,
     core: &Extent,
     sure: &Extent,
 ) -> Result<Vec<Extent>, OutOfMemory>
-    requires sums { AreTheTrees tree.now sums.now }
+    requires outlines { AreOutlinesOfTree tree.now outlines.now }
     requires inside { IsInside place.now.whole (window_at place.now.left place.now.top tree.now.shape) }
-    ensures exact { IfOk result (λ boxes. boxes.items ≡ open_extents choice.now.threshold tree.now.rows sums.now
+    ensures exact { IfOk result (λ boxes. boxes.items ≡ open_extents choice.now.threshold tree.now.rows outlines.now
         place.now.left place.now.top place.now.whole (extent_box core.now) (extent_box sure.now)) }
     ensures inside { IfOk result (λ boxes. All (λ found. IsBoxOf place.now.whole (extent_box found)) boxes.items) }
     ensures few { IfOk result (λ boxes. length boxes.items ≤ 2147483644) }
-    ensures known { IfOk result (λ boxes. boxes.items ≡ [] → AreSettled choice.now.threshold tree.now.rows sums.now
+    ensures known { IfOk result (λ boxes. boxes.items ≡ [] → AreSettled choice.now.threshold tree.now.rows outlines.now
         place.now.left place.now.top place.now.whole (extent_box core.now) (extent_box sure.now) (length tree.now.rows)) }
-    ensures unsettled { IfOk result (λ boxes. All (λ found. IsUnsettled choice.now.threshold tree.now.rows sums.now
+    ensures unsettled { IfOk result (λ boxes. All (λ found. IsUnsettled choice.now.threshold tree.now.rows outlines.now
         place.now.left place.now.top place.now.whole (extent_box core.now) (extent_box sure.now) (extent_box found)) boxes.items) }
 {
     let mut boxes = Vec::new(alloc);
     for n in 0..tree.node_count() {
         if is_whole_at(tree, n, choice) {
-            let part = box_of(&sums[n as usize], tree, place);
+            let part = box_of(&outlines[n as usize], tree, place);
             if !is_settled(&part, place.whole, core, sure) {
                 boxes.push(part)?;
             }
@@ -99,10 +99,10 @@ fn is_settled(part: &Extent, whole: Shape, core: &Extent, sure: &Extent) -> bool
 }
 
 /// The box of a node in the image.
-pub fn box_of(sums: &Sums, tree: &Tree, place: &WindowPlace) -> Extent
-    requires boxed { HasBoxIn tree.now.shape sums.now }
+pub fn box_of(outline: &Outline, tree: &Tree, place: &WindowPlace) -> Extent
+    requires boxed { HasBoxIn tree.now.shape outline.now }
     requires inside { IsInside place.now.whole (window_at place.now.left place.now.top tree.now.shape) }
-    ensures same { extent_box result ≡ node_box place.now.left place.now.top sums.now }
+    ensures same { extent_box result ≡ node_box place.now.left place.now.top outline.now }
     ensures columns { result.columns.from < result.columns.to }
     ensures rows { result.rows.from < result.rows.to }
     ensures inside { result.columns.to ≤ place.now.whole.width }
@@ -112,12 +112,12 @@ pub fn box_of(sums: &Sums, tree: &Tree, place: &WindowPlace) -> Extent
     let _shape = tree.shape();
     Extent {
         columns: Interval {
-            from: place.left + sums.xmin - 1,
-            to: place.left + sums.xmax,
+            from: place.left + outline.xmin - 1,
+            to: place.left + outline.xmax,
         },
         rows: Interval {
-            from: place.top + sums.ymin - 1,
-            to: place.top + sums.ymax,
+            from: place.top + outline.ymin - 1,
+            to: place.top + outline.ymax,
         },
     }
 }

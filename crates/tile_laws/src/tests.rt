@@ -2,12 +2,12 @@
 
 ghost use Rattle.std.specs.Prelude.{◌≡◌};
 ghost use Rattle.comp_tree.specs.Windows.{IsInside};
-ghost use Rattle.node_sums.specs.Sums.{AreTheTrees};
+ghost use Rattle.node_sums.specs.Outlines.{AreOutlinesOfTree};
 ghost use Rattle.source_sheet.specs.Laid.{window_at};
 
 use super::*;
 use comp_tree::{Connect, Plane, Shape, Tree, plain_tree};
-use node_sums::{Sums, sums};
+use node_sums::{Outline, outlines};
 use source_pick::{CatRow, Choice, pick, row};
 use std::alloc::Global;
 use std::test::Fail;
@@ -79,16 +79,16 @@ fn row_of(alloc: Global, width: u32, values: &[i64], number: u32) -> Result<CatR
         contrast: 5,
     };
     let tree = plain_tree(alloc, &plane, Connect::Four)?;
-    let found = sums(alloc, &plane, &tree)?;
-    let picked = pick(alloc, &tree, &found, &choice)?;
-    if number == 0 || number > 6 || number as usize > picked.len() {
+    let picked = pick(alloc, &plane, &tree, &choice)?;
+    let count = picked.nodes.len().min(picked.sums.len());
+    if number == 0 || number > 6 || number as usize > count {
         return Err(Fail::from("no such source"));
     }
-    let n = picked[number as usize - 1];
+    let n = picked.nodes[number as usize - 1];
     if n as usize >= tree.rows().len() {
         return Err(Fail::from("no such node"));
     }
-    Ok(row(&tree, &found, number, n))
+    Ok(row(&tree, &picked.sums[number as usize - 1], number, n))
 }
 
 // A plane of these values, of which 0 stands for an undefined pixel.
@@ -132,12 +132,12 @@ fn sources_of_two_windows(rt: HostRuntime) -> Result<(), Fail> {
 fn open_count(
     alloc: Global,
     tree: &Tree,
-    found: &[Sums],
+    found: &[Outline],
     place: &WindowPlace,
     left: u32,
     seen: &Extent,
 ) -> usize
-    requires sums { AreTheTrees tree.now found.now }
+    requires outlines { AreOutlinesOfTree tree.now found.now }
     requires inside { IsInside place.now.whole (window_at place.now.left place.now.top tree.now.shape) }
 {
     let choice = Choice {
@@ -169,7 +169,7 @@ fn open_nodes_of_a_window(rt: HostRuntime) -> Result<(), Fail> {
     assert_eq!(rt; (window.width, window.height), (4, 1));
     let plane = plane_of(rt.alloc(), window, &[5, 6, 1, 7])?;
     let tree = plain_tree(rt.alloc(), &plane, Connect::Four)?;
-    let found = sums(rt.alloc(), &plane, &tree)?;
+    let found = outlines(rt.alloc(), &plane, &tree)?;
     let place = WindowPlace {
         left: 2,
         top: 0,

@@ -7,7 +7,7 @@ use Rattle.std.proofs.lemmas.List.Elements.{All-cons, All-nil, All-same}
 use Rattle.comp_tree.specs.declared.tree.NodeRow.{NodeRow}
 use Rattle.comp_tree.specs.Raster.{Raster}
 use Rattle.comp_tree.specs.Windows.{Box}
-use Rattle.node_sums.specs.declared.entry.Sums.{Sums}
+use Rattle.node_sums.specs.declared.outline.Outline.{Outline}
 use Rattle.tile_laws.specs.declared.extents.Extent.{Extent}
 use Rattle.tile_laws.specs.Clear.{clear_box}
 use Rattle.tile_laws.specs.Extents.{extent_box, box_extent}
@@ -50,36 +50,36 @@ pub none_from : (o : Option Extent) → ((x : Extent) → o ≡ Some x → ⊥) 
 none_from None h = refl
 none_from (Some x) h = absurd (h x refl)
 
-module _ (threshold : ℤ) (place : TilePlace) (rows : List NodeRow) (sums : List Sums) (core : Extent) (is : extent_box core ≡ core_box place) where
+module _ (threshold : ℤ) (place : TilePlace) (rows : List NodeRow) (outlines : List Outline) (core : Extent) (is : extent_box core ≡ core_box place) where
   one_core : core ∷ [] ≡ box_extent (core_box place) ∷ []
   one_core = ap (λ (b : Box). box_extent b ∷ []) is
 
-  pub core_alone : (sure : Option Extent) → sure ≡ None → (boxes : List Extent) → boxes ≡ core ∷ [] → boxes ≡ left_open threshold place sure rows sums
+  pub core_alone : (sure : Option Extent) → sure ≡ None → (boxes : List Extent) → boxes ≡ core ∷ [] → boxes ≡ left_open threshold place sure rows outlines
   unfolding left_open
   core_alone sure none boxes alone =
-      alone ∙ one_core ∙ ap (λ (o : Option Extent). left_open threshold place o rows sums) (sym none)
+      alone ∙ one_core ∙ ap (λ (o : Option Extent). left_open threshold place o rows outlines) (sym none)
 
   pub core_beyond : (sure : Option Extent) (known : Extent) → sure ≡ Some known → holds_box (extent_box known) (extent_box core) ≡ false
-      → (boxes : List Extent) → boxes ≡ core ∷ [] → boxes ≡ left_open threshold place sure rows sums
+      → (boxes : List Extent) → boxes ≡ core ∷ [] → boxes ≡ left_open threshold place sure rows outlines
   unfolding left_open
   core_beyond sure known some beyond boxes alone =
       alone ∙ one_core
       ∙ sym (cond-false (holds_box (extent_box known) (core_box place))
-      (open_extents threshold rows sums place.left place.top place.whole (core_box place) (extent_box known)) (box_extent (core_box place) ∷ [])
+      (open_extents threshold rows outlines place.left place.top place.whole (core_box place) (extent_box known)) (box_extent (core_box place) ∷ [])
       (subst (λ (b : Box). holds_box (extent_box known) b ≡ false) is beyond))
-      ∙ ap (λ (o : Option Extent). left_open threshold place o rows sums) (sym some)
+      ∙ ap (λ (o : Option Extent). left_open threshold place o rows outlines) (sym some)
 
   pub core_known : (sure : Option Extent) (known : Extent) → sure ≡ Some known → holds_box (extent_box known) (extent_box core) ≡ true
-      → (boxes : List Extent) → boxes ≡ open_extents threshold rows sums place.left place.top place.whole (extent_box core) (extent_box known)
-      → boxes ≡ left_open threshold place sure rows sums
+      → (boxes : List Extent) → boxes ≡ open_extents threshold rows outlines place.left place.top place.whole (extent_box core) (extent_box known)
+      → boxes ≡ left_open threshold place sure rows outlines
   unfolding left_open
   core_known sure known some within boxes are =
       are
-      ∙ ap (λ (b : Box). open_extents threshold rows sums place.left place.top place.whole b (extent_box known)) is
+      ∙ ap (λ (b : Box). open_extents threshold rows outlines place.left place.top place.whole b (extent_box known)) is
       ∙ sym (cond-true (holds_box (extent_box known) (core_box place))
-      (open_extents threshold rows sums place.left place.top place.whole (core_box place) (extent_box known)) (box_extent (core_box place) ∷ [])
+      (open_extents threshold rows outlines place.left place.top place.whole (core_box place) (extent_box known)) (box_extent (core_box place) ∷ [])
       (subst (λ (b : Box). holds_box (extent_box known) b ≡ true) is within))
-      ∙ ap (λ (o : Option Extent). left_open threshold place o rows sums) (sym some)
+      ∙ ap (λ (o : Option Extent). left_open threshold place o rows outlines) (sym some)
 
   pub core_within : (boxes : List Extent) → boxes ≡ core ∷ [] → IsBoxOf place.whole (core_box place) → All (λ found. IsBoxOf place.whole (extent_box found)) boxes
   core_within boxes alone of =

@@ -17,7 +17,7 @@ use Rattle.mesh_background.specs.Residuals.{residual_of}
 use Rattle.mesh_background.specs.Windows.{HasDefinedCellsIn}
 use Rattle.mesh_background.proofs.Exported.{residual_shape}
 use Rattle.comp_tree.specs.Components.{tree_of}
-use Rattle.node_sums.specs.Sums.{sums_in}
+use Rattle.node_sums.specs.Outlines.{outlines_in}
 use Rattle.source_pick.specs.declared.choice.Choice.{Choice}
 use Rattle.source_pick.specs.declared.catalogue.CatRow.{CatRow}
 use Rattle.source_pick.specs.Catalogue.{catalogue, moved_row}
@@ -246,7 +246,7 @@ module _ (laws : MakingLaws) (order : Order) (choice : Choice) (place : TilePlac
 
 -- the boxes that are left open of two planes with the same pixels of at least the threshold
 left_alike : (threshold : ℤ) (place : TilePlace) (sure : Option Extent) (connect : Connect) (r s : Raster) → IsPlane r → IsPlane s → AlikeAbove r s threshold
-    → left_open threshold place sure (tree_of r connect).rows (sums_in r connect) ≡ left_open threshold place sure (tree_of s connect).rows (sums_in s connect)
+    → left_open threshold place sure (tree_of r connect).rows (outlines_in r connect) ≡ left_open threshold place sure (tree_of s connect).rows (outlines_in s connect)
 unfolding left_open
 left_alike threshold place None connect r s one other alike = refl
 left_alike threshold place (Some sure) connect r s one other alike =
@@ -266,7 +266,7 @@ tile_of_window order choice place image k sure t sure_is k_is same told = record
   map = told.map ∙ sym same.numbers;
   «open» =
       told.open
-      ∙ ap (λ (o : Option Extent). left_open choice.threshold place o (tree_of k order.connect).rows (sums_in k order.connect)) sure_is
+      ∙ ap (λ (o : Option Extent). left_open choice.threshold place o (tree_of k order.connect).rows (outlines_in k order.connect)) sure_is
       ∙ sym (left_alike choice.threshold place (sure_extent_of order.flat order.mesh place image) order.connect left k left_plane told.plane alike);
 }
   where

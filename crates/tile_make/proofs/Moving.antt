@@ -17,6 +17,7 @@ use Rattle.comp_tree.specs.Windows.{Window, IsInside}
 use Rattle.comp_tree.proofs.Exported.{below_from_defined, in_node-defined, row_below}
 use Rattle.node_sums.specs.declared.entry.Sums.{Sums}
 use Rattle.node_sums.specs.Sums.{sums_of}
+use Rattle.node_sums.specs.Outlines.{outline_of}
 use Rattle.node_sums.proofs.Exported.{fits}
 use Rattle.source_pick.specs.declared.catalogue.CatRow.{CatRow}
 use Rattle.source_pick.specs.Catalogue.{catalogue_of, catalogue_row, measured_row, cells_of, moved_row, FitsColumn, FitsColumns, IsCentred}
@@ -132,7 +133,7 @@ moved_fits r connect number n whole w row plane node same inside is columns cent
     s : Sums
     s = sums_of r connect n
 
-    box : HasBoxIn r.shape (sums_of r connect n)
+    box : HasBoxIn r.shape (outline_of (sums_of r connect n))
     box = box_in r connect n plane node
 
     wide : r.shape.width ≤ 65535

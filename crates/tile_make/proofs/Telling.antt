@@ -5,8 +5,8 @@ use Rattle.comp_tree.specs.Raster.{Raster}
 use Rattle.comp_tree.specs.ComponentTree.{ComponentTree}
 use Rattle.comp_tree.specs.Components.{tree_of}
 use Rattle.comp_tree.specs.Windows.{Box}
-use Rattle.node_sums.specs.declared.entry.Sums.{Sums}
-use Rattle.node_sums.specs.Sums.{sums_in}
+use Rattle.node_sums.specs.declared.outline.Outline.{Outline}
+use Rattle.node_sums.specs.Outlines.{outlines_in}
 use Rattle.source_pick.specs.declared.choice.Choice.{Choice}
 use Rattle.tile_laws.specs.declared.extents.Extent.{Extent}
 use Rattle.tile_laws.specs.Clear.{window_box, IsBoxWithin}
@@ -17,19 +17,19 @@ use Rattle.tile_make.specs.declared.placing.TilePlace.{TilePlace}
 use Rattle.tile_make.specs.Told.{IsKnown}
 
 pub known_from : (plane : Raster) (connect : Connect) (choice : Choice) (place : TilePlace) (sure : Option Extent) (known : Extent) (tree : ComponentTree)
-    (sums : List Sums) (core : Box) → core ≡ window_box (window_of place.core) → tree ≡ tree_of plane connect → sums ≡ sums_in plane connect
+    (outlines : List Outline) (core : Box) → core ≡ window_box (window_of place.core) → tree ≡ tree_of plane connect → outlines ≡ outlines_in plane connect
     → sure ≡ Some known → IsBoxWithin (extent_box known) core
-    → AreSettled choice.threshold tree.rows sums place.left place.top place.whole core (extent_box known) (length tree.rows)
+    → AreSettled choice.threshold tree.rows outlines place.left place.top place.whole core (extent_box known) (length tree.rows)
     → IsKnown plane connect choice place sure
-known_from plane connect choice place sure known tree sums core core_is tree_is sums_are is within settled = record {
+known_from plane connect choice place sure known tree outlines core core_is tree_is outlines_are is within settled = record {
   extent = known;
   is = is;
   core = subst (λ (b : Box). IsBoxWithin (extent_box known) b) core_is within;
   settled =
-      subst (λ (b : Box). AreSettled choice.threshold (tree_of plane connect).rows (sums_in plane connect) place.left place.top place.whole b
+      subst (λ (b : Box). AreSettled choice.threshold (tree_of plane connect).rows (outlines_in plane connect) place.left place.top place.whole b
       (extent_box known) (length (tree_of plane connect).rows)) core_is
-      (subst (λ (t : ComponentTree). AreSettled choice.threshold t.rows (sums_in plane connect) place.left place.top place.whole core (extent_box known)
+      (subst (λ (t : ComponentTree). AreSettled choice.threshold t.rows (outlines_in plane connect) place.left place.top place.whole core (extent_box known)
       (length t.rows)) tree_is
-      (subst (λ (s : List Sums). AreSettled choice.threshold tree.rows s place.left place.top place.whole core (extent_box known) (length tree.rows)) sums_are
+      (subst (λ (s : List Outline). AreSettled choice.threshold tree.rows s place.left place.top place.whole core (extent_box known) (length tree.rows)) outlines_are
       settled));
 }

@@ -9,8 +9,8 @@ use Rattle.comp_tree.specs.Components.{tree_of}
 use Rattle.comp_tree.specs.Windows.{Box}
 use Rattle.mesh_background.specs.Mesh.{cell_count, cell_pixels}
 use Rattle.mesh_background.specs.Residuals.{residual_of}
-use Rattle.node_sums.specs.declared.entry.Sums.{Sums}
-use Rattle.node_sums.specs.Sums.{sums_in}
+use Rattle.node_sums.specs.declared.outline.Outline.{Outline}
+use Rattle.node_sums.specs.Outlines.{outlines_in}
 use Rattle.source_pick.specs.declared.choice.Choice.{Choice}
 use Rattle.source_pick.specs.declared.catalogue.CatRow.{CatRow}
 use Rattle.source_pick.specs.Catalogue.{catalogue, cells_of, moved_row, FitsColumns}
@@ -52,17 +52,17 @@ abbrev pub core_box : TilePlace → Box
 core_box place = window_box (window_of place.core)
 
 -- the boxes that are left open of a tree's nodes: that of the core where no box is sure or the core doesn't lie in it
-unfoldable pub left_open : ℤ → TilePlace → Option Extent → List NodeRow → List Sums → List Extent
-left_open threshold place None rows sums = box_extent (core_box place) ∷ []
-left_open threshold place (Some sure) rows sums =
+unfoldable pub left_open : ℤ → TilePlace → Option Extent → List NodeRow → List Outline → List Extent
+left_open threshold place None rows outlines = box_extent (core_box place) ∷ []
+left_open threshold place (Some sure) rows outlines =
     if holds_box (extent_box sure) (core_box place)
-    then open_extents threshold rows sums place.left place.top place.whole (core_box place) (extent_box sure) else box_extent (core_box place) ∷ []
+    then open_extents threshold rows outlines place.left place.top place.whole (core_box place) (extent_box sure) else box_extent (core_box place) ∷ []
 
 -- those of a tile: of the components of what is left of the window's image without its background
 abbrev pub open_of_tile : Order → Choice → TilePlace → Raster → List Extent
 open_of_tile order choice place image =
     left_open choice.threshold place (sure_extent_of order.flat order.mesh place image)
-    (tree_of (residual_of image order.mesh order.flat) order.connect).rows (sums_in (residual_of image order.mesh order.flat) order.connect)
+    (tree_of (residual_of image order.mesh order.flat) order.connect).rows (outlines_in (residual_of image order.mesh order.flat) order.connect)
 
 -- ---- the tile
 

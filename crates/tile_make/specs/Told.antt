@@ -10,7 +10,7 @@ use Rattle.comp_tree.specs.Windows.{IsInside}
 use Rattle.mesh_background.specs.Mesh.{cell_count, mesh_cell_of}
 use Rattle.mesh_background.specs.Windows.{IsOnMesh}
 use Rattle.mesh_background.specs.Laws.{ResidualIsPlane}
-use Rattle.node_sums.specs.Sums.{sums_in}
+use Rattle.node_sums.specs.Outlines.{outlines_in}
 use Rattle.source_pick.specs.declared.choice.Choice.{Choice}
 use Rattle.source_pick.specs.declared.catalogue.CatRow.{CatRow}
 use Rattle.source_pick.specs.Catalogue.{catalogue, cells_of, FitsColumns}
@@ -59,7 +59,7 @@ pub record IsKnown (k : Raster) (connect : Connect) (choice : Choice) (place : T
   pub extent : Extent
   pub is : sure ≡ Some extent
   pub core : IsBoxWithin (extent_box extent) (window_box (window_of place.core))
-  pub settled : AreSettled choice.threshold (tree_of k connect).rows (sums_in k connect) place.left place.top place.whole (window_box (window_of place.core))
+  pub settled : AreSettled choice.threshold (tree_of k connect).rows (outlines_in k connect) place.left place.top place.whole (window_box (window_of place.core))
       (extent_box extent) (length (tree_of k connect).rows)
 
 -- the tile tells what was found in plane k
@@ -70,7 +70,7 @@ pub record IsTold (k : Raster) (connect : Connect) (choice : Choice) (place : Ti
   pub core : t.core ≡ place.core
   pub rows : t.rows.items ≡ own_of place k.shape (catalogue k connect choice)
   pub map : t.map.items ≡ segmentation k connect choice
-  pub «open» : t.open.items ≡ left_open choice.threshold place sure (tree_of k connect).rows (sums_in k connect)
+  pub «open» : t.open.items ≡ left_open choice.threshold place sure (tree_of k connect).rows (outlines_in k connect)
   pub known : t.open.items ≡ [] → IsKnown k connect choice place sure
 
 -- the laws on which a tile stands

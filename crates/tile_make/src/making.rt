@@ -18,10 +18,10 @@ use crate::rows::own_rows;
 use comp_tree::Plane;
 use costs::OutOfMemory;
 use mesh_background::laws::residual_is_a_plane;
-use node_sums::sums;
+use node_sums::outlines;
 use orders::Order;
 use source_pick::laws::kept_has_the_same_sources;
-use source_pick::{Choice, clear_far, pick, segment_in_parts};
+use source_pick::{Choice, clear_far, pick_by_outlines, segment_in_parts};
 use std::alloc::Global;
 use std::thread::Threads;
 use strip_crew::{Gate, component_tree};
@@ -162,11 +162,11 @@ fn tell<R: Threads + Sync, G: Gate>(
         order.workers,
         gate,
     )?;
-    let sums = sums(alloc, plane, &tree)?;
-    let open = open_of(alloc, &tree, &sums, choice, place, sure)?;
-    let picked = pick(alloc, &tree, &sums, choice)?;
-    let rows = own_rows(alloc, &tree, &sums, &picked, place)?;
-    let map = segment_in_parts(rt, alloc, &tree, &picked, order.workers)?;
+    let outlines = outlines(alloc, plane, &tree)?;
+    let open = open_of(alloc, &tree, &outlines, choice, place, sure)?;
+    let picked = pick_by_outlines(alloc, plane, &tree, &outlines, choice)?;
+    let rows = own_rows(alloc, &tree, &picked.sums, &picked.nodes, place)?;
+    let map = segment_in_parts(rt, alloc, &tree, &picked.nodes, order.workers)?;
     Ok(TileCatalogue {
         whole: place.whole,
         window: Frame {

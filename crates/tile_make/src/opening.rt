@@ -3,7 +3,7 @@
 ghost use Rattle.std.specs.Prelude.{◌≡◌, ◌+◌, ◌<◌, ◌≤◌, ◌↔◌, ◌&&◌, nat_le, [], ◌∷◌, IfOk, IsTrue, length};
 ghost use Rattle.std.specs.List.{All};
 ghost use Rattle.comp_tree.specs.Windows.{IsInside};
-ghost use Rattle.node_sums.specs.Sums.{AreTheTrees, ForEachPlaneOf};
+ghost use Rattle.node_sums.specs.Outlines.{AreOutlinesOfTree, ForEachPlaneOutlined};
 ghost use Rattle.tile_laws.specs.Clear.{IsBoxWithin};
 ghost use Rattle.tile_laws.specs.Extents.{extent_box};
 ghost use Rattle.tile_make.specs.Placed.{window_of_place};
@@ -14,7 +14,7 @@ ghost use Rattle.tile_make.specs.Told.{IsKnown};
 use crate::placing::{TilePlace, extent_of};
 use comp_tree::Tree;
 use costs::OutOfMemory;
-use node_sums::Sums;
+use node_sums::Outline;
 use source_pick::Choice;
 use std::alloc::{AllocError, Global};
 use tile_laws::{Extent, Interval, WindowPlace, open_boxes};
@@ -23,20 +23,20 @@ use tile_laws::{Extent, Interval, WindowPlace, open_boxes};
 pub(crate) fn open_of(
     alloc: Global,
     tree: &Tree,
-    sums: &[Sums],
+    outlines: &[Outline],
     choice: &Choice,
     place: &TilePlace,
     sure: Option<Extent>,
 ) -> Result<Vec<Extent>, OutOfMemory>
-    requires sums { AreTheTrees tree.now sums.now }
+    requires outlines { AreOutlinesOfTree tree.now outlines.now }
     requires inside { IsInside place.now.whole (window_of_place place.now tree.now.shape) }
     requires columns { place.now.core.left + place.now.core.shape.width ≤ 65535 }
     requires rows { place.now.core.top + place.now.core.shape.height ≤ 65535 }
     requires core { IsBoxOf place.now.whole (core_box place.now) }
-    ensures exact { IfOk result (λ boxes. boxes.items ≡ left_open choice.now.threshold place.now sure tree.now.rows sums.now) }
+    ensures exact { IfOk result (λ boxes. boxes.items ≡ left_open choice.now.threshold place.now sure tree.now.rows outlines.now) }
     ensures inside { IfOk result (λ boxes. All (λ found. IsBoxOf place.now.whole (extent_box found)) boxes.items) }
     ensures few { IfOk result (λ boxes. length boxes.items ≤ 2147483644) }
-    ensures known { IfOk result (λ boxes. boxes.items ≡ [] → ForEachPlaneOf tree.now sums.now
+    ensures known { IfOk result (λ boxes. boxes.items ≡ [] → ForEachPlaneOutlined tree.now outlines.now
         (λ plane connect. IsKnown plane connect choice.now place.now sure)) }
 {
     let core = extent_of(&place.core);
@@ -51,7 +51,7 @@ pub(crate) fn open_of(
         top: place.top,
         whole: place.whole,
     };
-    open_boxes(alloc, tree, sums, choice, &at, &core, &known)
+    open_boxes(alloc, tree, outlines, choice, &at, &core, &known)
 }
 
 // The one box of a core of which nothing is known.

@@ -1,12 +1,15 @@
 //! The rows of a tile.
 
 ghost use Rattle.std.specs.List.{All};
-ghost use Rattle.std.specs.Prelude.{◌≡◌, ◌+◌, ◌<◌, ◌≤◌, ◌&&◌, ◌-◌, ◌++◌, ◌∷◌, [], IfOk, OnOk, filter, length, nat_le, nat_lt, pos, ◌≤ℤ◌, unsigned_abs};
+ghost use Rattle.std.specs.Prelude.{◌≡◌, ◌+◌, ◌<◌, ◌≤◌, ◌&&◌, ◌-◌, ◌++◌, ◌∷◌, [], IfOk, OnOk, filter, length, map, nat_le, nat_lt, pos, ◌≤ℤ◌, unsigned_abs};
 ghost use Rattle.comp_tree.specs.declared.shape.Shape.{Shape as Sides};
 ghost use Rattle.comp_tree.specs.Windows.{IsInside};
-ghost use Rattle.node_sums.specs.Sums.{AreTheTrees, ForEachPlaneOf};
+ghost use Rattle.comp_tree.specs.declared.shape.Connect.{Connect};
+ghost use Rattle.comp_tree.specs.Raster.{Raster};
+ghost use Rattle.comp_tree.specs.Components.{tree_of};
+ghost use Rattle.node_sums.specs.Sums.{sums_of, AreSumsOfNode, AreSumsOfNodes};
+ghost use Rattle.node_sums.specs.DisjointNodes.{AreDisjointNodes};
 ghost use Rattle.source_pick.specs.Catalogue.{catalogue_of, catalogue_row, moved_row, FitsColumns};
-ghost use Rattle.source_pick.specs.Segmentation.{AreDisjointNodes};
 ghost use Rattle.tile_laws.specs.Pieces.{first_pixel};
 ghost use Rattle.tile_join.specs.Tiles.{is_in_frame};
 ghost use Rattle.tile_join.specs.Tiles.{IsWritableRow};
@@ -22,7 +25,7 @@ use source_pick::{CatRow, row};
 use std::alloc::{AllocError, Global};
 use tile_join::Frame;
 
-// The rows of the picked nodes, numbered from 1 and moved to the image: those whose first pixels lie in the core.
+// The rows of the picked nodes, by the sums of each, numbered from 1 and moved to the image: those whose first pixels lie in the core.
 pub(crate) fn own_rows(
     alloc: Global,
     tree: &Tree,
@@ -30,17 +33,18 @@ pub(crate) fn own_rows(
     picked: &[u32],
     place: &TilePlace,
 ) -> Result<Vec<CatRow>, OutOfMemory>
-    requires sums { AreTheTrees tree.now sums.now }
+    requires sums { AreSumsOfNodes tree.now picked.now sums.now }
     requires disjoint { AreDisjointNodes tree.now picked.now }
     requires inside { IsInside place.now.whole (window_of_place place.now tree.now.shape) }
-    ensures exact { IfOk result (λ rows. ForEachPlaneOf tree.now sums.now
-        (λ plane connect. rows.items ≡ own_of place.now tree.now.shape (catalogue_of plane connect picked.now))) }
+    ensures exact { IfOk result (λ rows. (plane : Raster) (connect : Connect) → tree.now ≡ tree_of plane connect
+        → sums.now ≡ map (sums_of plane connect) picked.now
+        → rows.items ≡ own_of place.now tree.now.shape (catalogue_of plane connect picked.now)) }
     ensures fit { IfOk result (λ rows. All IsWritableRow rows.items) }
     ensures few { IfOk result (λ rows. length rows.items ≤ 2147483647) }
 {
     let mut rows = Vec::new(alloc);
     for (i, node) in picked.iter().enumerate() {
-        let row = row_in_image(tree, sums, i as u32 + 1, *node, place);
+        let row = row_in_image(tree, &sums[i], i as u32 + 1, *node, place);
         keep_own(place, row, &mut rows)?;
     }
     Ok(rows)
@@ -62,14 +66,15 @@ fn keep_own(place: &TilePlace, row: CatRow, rows: &mut Vec<CatRow>) -> Result<()
 }
 
 // The row of a node, as one of the image.
-fn row_in_image(tree: &Tree, sums: &[Sums], number: u32, node: u32, place: &TilePlace) -> CatRow
-    requires sums { AreTheTrees tree.now sums.now }
+fn row_in_image(tree: &Tree, sums: &Sums, number: u32, node: u32, place: &TilePlace) -> CatRow
+    requires sums { AreSumsOfNode tree.now node sums.now }
     requires node { node < length tree.now.rows }
     requires from_one { 1 ≤ number }
     requires few { number ≤ 2147483647 }
     requires inside { IsInside place.now.whole (window_of_place place.now tree.now.shape) }
-    ensures exact { ForEachPlaneOf tree.now sums.now (λ plane connect.
-        result ≡ moved_row (window_of_place place.now tree.now.shape) (catalogue_row plane connect number node)) }
+    ensures exact { (plane : Raster) (connect : Connect) → tree.now ≡ tree_of plane connect
+        → sums.now ≡ sums_of plane connect node
+        → result ≡ moved_row (window_of_place place.now tree.now.shape) (catalogue_row plane connect number node) }
     ensures stands { FirstStandsIn place.now.whole result }
     ensures fits { IsWritableRow result }
 {

@@ -1,5 +1,5 @@
 -- The cells of a catalogue, row by row.
-use Rattle.std.proofs.Common.{◌≡◌, ◌∙◌, ap, sym, subst, refl, arith, ℕ, ◌+◌, ◌<◌, ◌≤◌, List, [], ◌∷◌, ◌++◌, length, take}
+use Rattle.std.proofs.Common.{◌≡◌, ◌∙◌, ap, sym, subst, refl, arith, ℕ, ◌+◌, ◌<◌, ◌≤◌, List, [], ◌∷◌, ◌++◌, length, map, take}
 use Rattle.std.proofs.Common.{get_or, append-nil, length-append, ℤ}
 use Rattle.std.specs.List.{flat_map, enumerate_from, AllByRecursion}
 use Rattle.std.proofs.lemmas.Grind.{flat_map-append}
@@ -10,11 +10,11 @@ use Rattle.comp_tree.specs.Raster.{Raster}
 use Rattle.comp_tree.specs.ComponentTree.{ComponentTree}
 use Rattle.comp_tree.specs.Components.{tree_of}
 use Rattle.node_sums.specs.declared.entry.Sums.{Sums}
-use Rattle.node_sums.specs.Sums.{sums_in}
+use Rattle.node_sums.specs.Sums.{sums_of}
 use Rattle.fits_write.specs.Columns.{IsTable}
 use Rattle.source_pick.specs.declared.catalogue.CatRow.{CatRow}
 use Rattle.source_pick.specs.Catalogue.{catalogue_of, catalogue_row, cells_of, FitsColumns}
-use Rattle.source_pick.specs.Segmentation.{AreDisjointNodes}
+use Rattle.node_sums.specs.DisjointNodes.{AreDisjointNodes}
 use Rattle.source_pick.proofs.Exported.{few_marked, few_rows, row_fits}
 use Rattle.source_sheet.proofs.Exported.{all_more}
 use Rattle.fits_write.specs.CatalogueColumns.{catalogue_columns}
@@ -28,7 +28,7 @@ pub record AreCells (tree : ComponentTree) (sums : List Sums) (picked : List ℕ
   pub made : items ≡ flat_map cells_of rows
   pub one_each : length rows ≡ count
   pub fit : AllByRecursion (λ row. FitEach catalogue_columns (cells_of row)) rows
-  pub exact : (plane : Raster) (connect : Connect) → tree ≡ tree_of plane connect → sums ≡ sums_in plane connect
+  pub exact : (plane : Raster) (connect : Connect) → tree ≡ tree_of plane connect → sums ≡ map (sums_of plane connect) picked
       → rows ≡ take count (catalogue_of plane connect picked)
 
 pub few_picked : (tree : ComponentTree) (picked : List ℕ) → AreDisjointNodes tree picked → length picked ≤ 2147483647
@@ -70,7 +70,7 @@ rows_all plane connect picked count rows are whole =
 pub cells_more : (tree : ComponentTree) (sums : List Sums) (picked : List ℕ) (count : ℕ) (items items' : List ℤ) (row : CatRow)
     → AreCells tree sums picked count items → count < length picked
     → items' ≡ items ++ cells_of row → FitsColumns row
-    → ((plane : Raster) (connect : Connect) → tree ≡ tree_of plane connect → sums ≡ sums_in plane connect → row
+    → ((plane : Raster) (connect : Connect) → tree ≡ tree_of plane connect → sums ≡ map (sums_of plane connect) picked → row
     ≡ catalogue_row plane connect (count + 1) (get_or picked count 0))
     → AreCells tree sums picked (count + 1) items'
 cells_more tree sums picked count items items' row before within more fits is = record {
@@ -87,7 +87,7 @@ cells_more tree sums picked count items items' row before within more fits is = 
 
 pub all_cells : (tree : ComponentTree) (sums : List Sums) (picked : List ℕ) (count : ℕ) (items : List ℤ) → AreCells tree sums picked count items
     → length picked ≤ count
-    → (plane : Raster) (connect : Connect) → tree ≡ tree_of plane connect → sums ≡ sums_in plane connect
+    → (plane : Raster) (connect : Connect) → tree ≡ tree_of plane connect → sums ≡ map (sums_of plane connect) picked
     → items ≡ flat_map cells_of (catalogue_of plane connect picked)
 all_cells tree sums picked count items are whole plane connect tree_is sums_are =
     are.made ∙ ap (flat_map cells_of) (rows_all plane connect picked count are.rows (are.exact plane connect tree_is sums_are) whole)

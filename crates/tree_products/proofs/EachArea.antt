@@ -7,13 +7,8 @@ use Rattle.comp_tree.specs.Raster.{Raster}
 use Rattle.comp_tree.specs.ComponentTree.{ComponentTree}
 use Rattle.comp_tree.specs.Components.{tree_of}
 use Rattle.comp_tree.proofs.Exported.{length-rows}
-use Rattle.node_sums.specs.Sums.{sums_in, sums_of}
 use Rattle.node_sums.specs.Areas.{area_of, areas_in}
 use Rattle.tree_products.specs.Lines.{tree_lines, node_list}
-
-pub length-sums : (r : Raster) (connect : Connect) → length (sums_in r connect) ≡ length (tree_of r connect).rows
-unfolding sums_in
-length-sums r connect = length-map _ (sums_of r connect) ∙ length-range_with_len 0 _ ∙ sym (length-rows r connect)
 
 pub one_area_each : (r : Raster) (connect : Connect) (tree : ComponentTree) (items : List ℕ) → tree ≡ tree_of r connect → items ≡ areas_in r connect
     → length items ≡ length tree.rows

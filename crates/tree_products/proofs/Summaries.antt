@@ -14,7 +14,7 @@ use Rattle.comp_tree.specs.Limits.{IsWithin}
 use Rattle.comp_tree.specs.Raster.{Raster, value_at}
 use Rattle.comp_tree.specs.ComponentTree.{ComponentTree}
 use Rattle.comp_tree.specs.Components.{tree_of}
-use Rattle.node_sums.specs.declared.entry.Sums.{Sums}
+use Rattle.node_sums.specs.declared.outline.Outline.{Outline}
 use Rattle.node_sums.specs.Flux.{base_of, flux_of}
 use Rattle.tree_products.specs.Trials.{next_state, value_of_state, trial_image, total_flux}
 use Rattle.tree_products.specs.TrialSizes.{HasSmallFluxes, flux_bound}
@@ -52,9 +52,9 @@ abs_at_most (pos n) b low high = omega (arith, ints)
 abs_at_most z b low high = omega (arith, ints)
 
 -- the flux of a node, as it is computed
-pub flux_at_most : (tree : ComponentTree) (sums : List Sums) (n : ℕ) (flux : ℤ) → HasSmallFluxes tree sums → n < length sums
-    → ((entry : Sums) → slice_get sums n ≡ Some entry → flux ≡ entry.r -ℤ base_of tree n *ℤ pos entry.area) → pos 0 ≤ℤ flux → unsigned_abs flux ≤ flux_bound
-flux_at_most tree sums n flux small inside is low = elim (slice_get_cases sums n).1 [
+pub flux_at_most : (tree : ComponentTree) (outlines : List Outline) (n : ℕ) (flux : ℤ) → HasSmallFluxes tree outlines → n < length outlines
+    → ((entry : Outline) → slice_get outlines n ≡ Some entry → flux ≡ entry.r -ℤ base_of tree n *ℤ pos entry.area) → pos 0 ≤ℤ flux → unsigned_abs flux ≤ flux_bound
+flux_at_most tree outlines n flux small inside is low = elim (slice_get_cases outlines n).1 [
   | inl e ↦ abs_at_most flux flux_bound low (subst (λ (z : ℤ). z ≤ℤ pos flux_bound) (sym (is e.0 e.2)) (small.each n e.0 e.2))
   | inr past ↦ absurd (omega (arith, past.0))
 ]

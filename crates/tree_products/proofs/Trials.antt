@@ -1,11 +1,11 @@
 -- The trial's image: its states, its values, and how large what is made of it is.
 use Rattle.std.proofs.Common.{◌≡◌, ℕ, ◌+◌, ◌*◌, ◌/◌, ◌^◌, ◌<◌, ◌≤◌, zero, suc, List, [], ◌∷◌, length, map}
-use Rattle.std.proofs.Common.{refl, sym, ap, subst, ◌∙◌, arith}
-use Rattle.std.specs.Prelude.{ℤ, pos, nat_le, Bool, true, false, cond, ◌-ℤ◌, ◌≤ℤ◌, slice_get, Option, Some, None, unwrap_or}
+use Rattle.std.proofs.Common.{refl, sym, ap, subst, get_or, ◌∙◌, arith}
+use Rattle.std.specs.Prelude.{ℤ, pos, nat_le, Bool, true, false, cond, ◌-ℤ◌, ◌*ℤ◌, ◌≤ℤ◌, sum_by, slice_get, Option, Some, None, unwrap_or}
 use Rattle.std.proofs.lemmas.Int.{ints}
 use Rattle.std.proofs.lemmas.Nat.{mod_below}
-use Rattle.std.proofs.lemmas.List.{length-map}
-use Rattle.std.proofs.lemmas.Option.{slice_get_within}
+use Rattle.std.proofs.lemmas.List.{length-map, get_or-map}
+use Rattle.std.proofs.lemmas.Option.{slice_get_within, slice_get-get_or, get_or_from_slice_get}
 use Rattle.comp_tree.specs.declared.shape.Shape.{Shape}
 use Rattle.comp_tree.specs.declared.shape.Connect.{Connect}
 use Rattle.comp_tree.specs.Raster.{Raster, IsPlane, value_at, level}
@@ -18,14 +18,15 @@ use Rattle.comp_tree.specs.Limits.{IsWithin, value_bound, half_bound}
 use Rattle.comp_tree.proofs.Exported.{half_twice, within_more, length-pixels}
 use Rattle.node_sums.specs.declared.entry.Sums.{Sums}
 use Rattle.comp_tree.specs.Nesting.{pixels_of}
-use Rattle.node_sums.specs.Sums.{AreOfPlane}
+use Rattle.node_sums.specs.declared.outline.Outline.{Outline}
+use Rattle.node_sums.specs.Sums.{sums_of, sums_in}
+use Rattle.node_sums.specs.Outlines.{outline_of, outlines_in, AreOutlinesOfPlane}
 use Rattle.node_sums.specs.Flux.{base_of, flux_of}
 use Rattle.node_sums.specs.Sizes.{IsUpTo}
-use Rattle.node_sums.proofs.Exported.{length-filter-le, up_to-minus, total-up_to, BaseCase, at_root, at_child, base-case, flux-is}
+use Rattle.node_sums.proofs.Exported.{length-filter-le, up_to-minus, total-up_to, BaseCase, at_root, at_child, base-case, flux-is, length-sums_in}
 use Rattle.tree_products.specs.Trials.{next_state, states_behind, value_of_state, trial_image}
 use Rattle.tree_products.specs.SmallValues.{IsSmall, HasSmallValues}
 use Rattle.tree_products.specs.TrialSizes.{HasSmallFluxes, flux_bound}
-use Rattle.tree_products.proofs.EachArea.{length-sums}
 
 -- ---- its states
 
@@ -164,12 +165,28 @@ small-flux r connect n plane small hn =
     (total-up_to (λ p. level r p -ℤ base_of (tree_of r connect) n) 510 (pixels_of r connect n)
     (λ p m. up_to-minus 255 255 (level r p) (base_of (tree_of r connect) n) (small-level r p small) (small-base r connect n plane small hn)))
 
-pub small_fluxes : (r : Raster) (tree : ComponentTree) (sums : List Sums) → IsPlane r → HasSmallValues r.values → AreOfPlane r tree sums
-    → HasSmallFluxes tree sums
-small_fluxes r tree sums plane small of = record {
+pub small_fluxes : (r : Raster) (tree : ComponentTree) (outlines : List Outline) → IsPlane r → HasSmallValues r.values → AreOutlinesOfPlane r tree outlines
+    → HasSmallFluxes tree outlines
+small_fluxes r tree outlines plane small of = record {
   each = λ n entry g.
+      let same : outlines ≡ map outline_of (sums_in r of.connect) = of.outlines_are in
       let inside : n < length (nodes r of.connect) =
-      omega (arith, slice_get_within sums n entry g, ap length of.sums_are, length-sums r of.connect, length-rows r of.connect) in
-      subst (λ (z : ℤ). z ≤ℤ pos flux_bound) (sym (flux-is r of.connect tree sums n entry of.tree_is of.sums_are g))
-      (small-flux r of.connect n plane small inside);
+      omega (arith, slice_get_within outlines n entry g, ap length same, length-map (sums_in r of.connect) outline_of, length-sums_in r of.connect) in
+      let there : n < length (sums_in r of.connect) = omega (arith, inside, length-sums_in r of.connect) in
+      let got : slice_get (sums_in r of.connect) n ≡ Some (get_or (sums_in r of.connect) n (sums_of r of.connect n)) =
+      slice_get-get_or (sums_in r of.connect) n (sums_of r of.connect n) there in
+      let is : outline_of (get_or (sums_in r of.connect) n (sums_of r of.connect n)) ≡ entry =
+      sym (get_or-map outline_of (sums_in r of.connect) n (sums_of r of.connect n) entry there)
+      ∙ ap (λ (xs : List Outline). get_or xs n entry) (sym same) ∙ get_or_from_slice_get outlines n entry entry g in
+      subst (λ (o : Outline). (o.r -ℤ base_of tree n *ℤ pos o.area) ≤ℤ pos flux_bound) is
+      (subst (λ (z : ℤ). z ≤ℤ pos flux_bound)
+      (sym (flux-is r of.connect tree (sums_in r of.connect) n (get_or (sums_in r of.connect) n (sums_of r of.connect n)) of.tree_is refl got))
+      (small-flux r of.connect n plane small inside));
 }
+
+pub areas_of_outlines : (r : Raster) (connect : Connect) → sum_by (λ (o : Outline). o.area) (outlines_in r connect) ≡ sum_by (λ (s : Sums). s.area) (sums_in r connect)
+areas_of_outlines r connect = same (sums_in r connect)
+  where
+    same : (xs : List Sums) → sum_by (λ (o : Outline). o.area) (map outline_of xs) ≡ sum_by (λ (s : Sums). s.area) xs
+    same [] = refl
+    same (x ∷ xs) = ap (λ (n : ℕ). x.area + n) (same xs)

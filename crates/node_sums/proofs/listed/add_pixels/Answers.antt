@@ -1,5 +1,5 @@
 use Rattle.std.proofs.Common.{◌≡◌, ◌+◌, ◌*◌, ◌∙◌, length, refl, subst, arith}
-use Rattle.node_sums.specs.Merging.{AreOwn, AreOwnTo, places_of}
+use Rattle.node_sums.specs.Merging.{AreOwnTo, places_of}
 use Rattle.node_sums.proofs.Passes
 use Rattle.node_sums.proofs.listed.add_pixels.Goals as goal
 

@@ -41,12 +41,12 @@ loop-p-preserved-else-number-eq0 c =
     record {
       own = Passes.to_next c.args.plane.now (places_of c.args.numbers.now c.args.node_of.now) c.loop-p.sums _ _ _ _ c.of_pixel-pixel.result c.together.result
           (Listing.listed_turn c.args.plane.now c.args.numbers.now c.args.node_of.now c.loop-p.sums (c.args.row * c.args.width) c.args.row
-    (c.loop-p.p - c.args.row * c.args.width) c.loop-p.p _ c.in-Some.value c.get.result _ c.of_pixel-pixel.result c.loop-p.invariant.own
-    (ap (λ n. c.args.row * n) c.requires.width)
-    (omega (arith, c.loop-p.invariant.low)) (omega (arith, c.loop-p.invariant.low, c.loop-p-test.true, c.requires.width))
-    (omega (arith, c.loop-p-test.true, row)) c.get.ensures.value c.in-Some.is c.in-Some.ensures.bounded c.of_pixel-pixel.ensures
-    (omega (arith, c.loop-p-test.true, row, c.requires.one_each)) refl c.if-number-eq0.false
-    (omega (arith, c.loop-p.invariant.same_length, c.requires.numbers (slice_index c.args.node_of.now c.loop-p.p))))
+          (c.loop-p.p - c.args.row * c.args.width) c.loop-p.p _ c.in-Some.value c.get.result _ c.of_pixel-pixel.result c.loop-p.invariant.own
+          (ap (λ n. c.args.row * n) c.requires.width)
+          (omega (arith, c.loop-p.invariant.low)) (omega (arith, c.loop-p.invariant.low, c.loop-p-test.true, c.requires.width))
+          (omega (arith, c.loop-p-test.true, row)) c.get.ensures.value c.in-Some.is c.in-Some.ensures.bounded c.of_pixel-pixel.ensures
+          (omega (arith, c.loop-p-test.true, row, c.requires.one_each)) refl c.if-number-eq0.false
+          (omega (arith, c.loop-p.invariant.same_length, c.requires.numbers (slice_index c.args.node_of.now c.loop-p.p))))
           c.together.ensures;
       same_length = length-set c.loop-p.sums _ _ ∙ c.loop-p.invariant.same_length;
       low = omega (arith, c.loop-p.invariant.low);

@@ -1,6 +1,6 @@
 use Rattle.std.proofs.Common.{◌≡◌, ◌∙◌, ◌*◌, ◌+◌, ◌<◌, ℕ, zero, suc, List, [], ◌∷◌, length, sym, ap, subst, arith, refl}
 use Rattle.std.specs.Prelude.{Some, slice_get}
-use Rattle.std.proofs.lemmas.Option.{slice_get_within, same_Some, get_or_from_slice_get}
+use Rattle.std.proofs.lemmas.Option.{slice_get_within, same_Some}
 use Rattle.comp_tree.specs.declared.shape.Shape.{Shape}
 use Rattle.node_sums.specs.declared.entry.Sums.{Sums}
 use Rattle.node_sums.specs.Sums.{AreSumsOfNode}
@@ -28,5 +28,5 @@ sums_of_nodes-requires-clause-disjoint c = record {
 pub flux-requires-clause-sums : goal.flux-requires-clause-sums
 flux-requires-clause-sums c =
     subst (λ (s : Sums). AreSumsOfNode c.args.tree.now c.args.n s)
-    (get_or_from_slice_get c.in_ok-found.found.items 0 c.index.result.now c.index.result.now c.index.ensures)
+    (sym c.index.ensures)
     (sums_of_one c.args.tree.now (c.args.n ∷ []) c.in_ok-found.found.items 0 c.index.result.now c.in_ok-found.ensures.of_nodes (omega arith))

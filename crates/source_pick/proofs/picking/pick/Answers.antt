@@ -1,4 +1,4 @@
-use Rattle.std.proofs.Common.{◌≡◌, ◌∙◌, List, sym, subst}
+use Rattle.std.proofs.Common.{◌∙◌, List, sym, subst}
 use Rattle.node_sums.specs.declared.outline.Outline.{Outline}
 use Rattle.node_sums.specs.Outlines.{AreOutlinesOfTree}
 use Rattle.source_pick.proofs.picking.pick.Goals as goal

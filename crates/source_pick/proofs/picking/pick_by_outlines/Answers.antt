@@ -1,10 +1,9 @@
-use Rattle.std.proofs.Common.{◌≡◌, ◌∙◌, ◌*◌, ℕ, List, Bool, IsPermutation, length, map, sym, subst, ap, rules}
+use Rattle.std.proofs.Common.{◌≡◌, ◌∙◌, ◌*◌, List, Bool, IsPermutation, length, map, sym, subst, ap, rules}
 use Rattle.std.specs.List.Sorted.{IsNonDecreasingBy}
 use Rattle.std.proofs.lemmas.List.Sorted.{IsNonDecreasingBy-from_sort_by_key}
 use Rattle.comp_tree.specs.declared.shape.Connect.{Connect}
 use Rattle.comp_tree.specs.declared.shape.Shape.{Shape}
 use Rattle.comp_tree.specs.Components.{tree_of}
-use Rattle.node_sums.specs.declared.entry.Sums.{Sums}
 use Rattle.node_sums.specs.Sums.{sums_of, AreSumsOfNodes}
 use Rattle.node_sums.specs.DisjointNodes.{AreDisjointNodes}
 use Rattle.node_sums.proofs.Exported.{count_of_sums}

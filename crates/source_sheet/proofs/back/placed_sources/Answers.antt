@@ -1,42 +1,46 @@
-use Rattle.std.proofs.Common.{sym, ◌∙◌, ap, subst, get_or, List, Vec, Global, ◌+◌, arith}
+use Rattle.std.proofs.Common.{sym, ◌≡◌, ◌<◌, ◌∙◌, ap, subst, get_or, List, Vec, Global, ◌+◌, length, arith}
 use Rattle.std.proofs.lemmas.Option.{slice_get-get_or}
+use Rattle.node_sums.specs.declared.entry.Sums.{Sums}
 use Rattle.source_sheet.specs.declared.back.Taken.{Taken}
 use Rattle.source_sheet.specs.Backs.{AreTaken}
 use Rattle.source_sheet.proofs.Taking.{none_taken, more_taken, same_taken, taken_up_to}
 use Rattle.source_sheet.proofs.back.placed_sources.Goals.{in-Some+in_ok-push, in_default}
 use Rattle.source_sheet.proofs.back.placed_sources.Goals as goal
 
-pub taken_at-requires-clause-node : goal.taken_at-requires-clause-node
-taken_at-requires-clause-node c =
-    (c.requires.nodes c.loop-n.n-index (get_or c.args.picked.now c.loop-n.n-index 0) (slice_get-get_or c.args.picked.now c.loop-n.n-index 0 c.loop-n-test.true)).0
+pub bounds-sums-i : goal.bounds-sums-i
+bounds-sums-i c = omega (arith, c.requires.one_each, c.loop-i-test.true)
 
 pub taken_at-requires-clause-first : goal.taken_at-requires-clause-first
 taken_at-requires-clause-first c =
-    (c.requires.nodes c.loop-n.n-index (get_or c.args.picked.now c.loop-n.n-index 0) (slice_get-get_or c.args.picked.now c.loop-n.n-index 0 c.loop-n-test.true)).1
+    let within : c.loop-i.i < length c.args.sums.now = omega (arith, c.requires.one_each, c.loop-i-test.true) in
+    c.requires.firsts c.loop-i.i _ (slice_get-get_or c.args.sums.now c.loop-i.i _ within)
 
-pub loop-n-init : goal.loop-n-init
-loop-n-init c =
-    none_taken c.args.whole.width c.args.onto.width c.args.places.now c.args.owners.now c.args.sums.now c.args.picked.now c.new-taken.result.items
+pub loop-i-init : goal.loop-i-init
+loop-i-init c = λ all firsts.
+    none_taken c.args.whole.width c.args.onto.width c.args.places.now c.args.owners.now all c.args.picked.now c.new-taken.result.items
     c.new-taken.ensures.items
 
-pub loop-n-preserved : goal.loop-n-preserved
-loop-n-preserved c =
+pub loop-i-preserved : goal.loop-i-preserved
+loop-i-preserved c =
+    let within : c.loop-i.i < length c.args.sums.now = omega (arith, c.requires.one_each, c.loop-i-test.true) in
     elim c.match-taken_at.branch [
-      | in-Some+in_ok-push w ↦
-          subst (λ (xs : List Taken). AreTaken c.args.whole.width c.args.onto.width c.args.places.now c.args.owners.now c.args.sums.now c.args.picked.now
-          (c.loop-n.n-index + 1) xs)
+      | in-Some+in_ok-push w ↦ λ all firsts.
+          subst (λ (xs : List Taken). AreTaken c.args.whole.width c.args.onto.width c.args.places.now c.args.owners.now all c.args.picked.now (c.loop-i.i + 1) xs)
           (sym (ap (λ (v : Vec Taken Global). v.items) w.taken-is ∙ w.in_ok-push.ensures.items))
-          (more_taken c.args.whole.width c.args.onto.width c.args.places.now c.args.owners.now c.args.sums.now c.args.picked.now c.loop-n.n-index _
-          c.loop-n.taken.items c.loop-n.invariant c.loop-n-test.true w.in-Some.ensures)
-      | in_default w ↦
-          subst (λ (xs : List Taken). AreTaken c.args.whole.width c.args.onto.width c.args.places.now c.args.owners.now c.args.sums.now c.args.picked.now
-          (c.loop-n.n-index + 1) xs)
+          (more_taken c.args.whole.width c.args.onto.width c.args.places.now c.args.owners.now all c.args.picked.now c.loop-i.i _
+          c.loop-i.taken.items (c.loop-i.invariant all firsts) c.loop-i-test.true
+          (w.in-Some.ensures all (firsts.each c.loop-i.i (get_or c.args.picked.now c.loop-i.i 0) _
+          (slice_get-get_or c.args.picked.now c.loop-i.i 0 c.loop-i-test.true) (slice_get-get_or c.args.sums.now c.loop-i.i _ within))))
+      | in_default w ↦ λ all firsts.
+          subst (λ (xs : List Taken). AreTaken c.args.whole.width c.args.onto.width c.args.places.now c.args.owners.now all c.args.picked.now (c.loop-i.i + 1) xs)
           (sym (ap (λ (v : Vec Taken Global). v.items) w.taken-is))
-          (same_taken c.args.whole.width c.args.onto.width c.args.places.now c.args.owners.now c.args.sums.now c.args.picked.now c.loop-n.n-index
-          c.loop-n.taken.items c.loop-n.invariant c.loop-n-test.true w.in_default.ensures)
+          (same_taken c.args.whole.width c.args.onto.width c.args.places.now c.args.owners.now all c.args.picked.now c.loop-i.i
+          c.loop-i.taken.items (c.loop-i.invariant all firsts) c.loop-i-test.true
+          (w.in_default.ensures all (firsts.each c.loop-i.i (get_or c.args.picked.now c.loop-i.i 0) _
+          (slice_get-get_or c.args.picked.now c.loop-i.i 0 c.loop-i-test.true) (slice_get-get_or c.args.sums.now c.loop-i.i _ within))))
     ]
 
 pub returns : goal.returns
-returns c =
-    taken_up_to c.args.whole.width c.args.onto.width c.args.places.now c.args.owners.now c.args.sums.now c.args.picked.now _ c.loop-n.n-index
-    c.loop-n.taken.items c.loop-n.invariant (omega (arith, c.loop-n-test.false, c.loop-n.auto.n-index-end))
+returns c = λ all firsts.
+    taken_up_to c.args.whole.width c.args.onto.width c.args.places.now c.args.owners.now all c.args.picked.now _ c.loop-i.i
+    c.loop-i.taken.items (c.loop-i.invariant all firsts) (omega (arith, c.loop-i-test.false, c.loop-i.auto.i-end))

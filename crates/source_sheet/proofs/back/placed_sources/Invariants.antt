@@ -1,5 +1,8 @@
-use Rattle.source_sheet.specs.Backs.{AreTaken}
+use Rattle.std.proofs.Common.{List}
+use Rattle.node_sums.specs.declared.entry.Sums.{Sums}
+use Rattle.source_sheet.specs.Backs.{AreFirstsOf, AreTaken}
 use Rattle.source_sheet.proofs.back.placed_sources.Given as goal
 
-abbrev pub invariant-loop-n : goal.invariant-loop-n
-invariant-loop-n l = AreTaken l.whole.width l.onto.width l.places l.owners l.sums l.picked l.n-index l.taken.items
+abbrev pub invariant-loop-i : goal.invariant-loop-i
+invariant-loop-i l = (all : List Sums) → AreFirstsOf all l.picked l.sums
+    → AreTaken l.whole.width l.onto.width l.places l.owners all l.picked l.i l.taken.items

@@ -1,6 +1,6 @@
 use Rattle.std.proofs.Common.{ℕ, List, ◌≤◌, subst, sym}
 use Rattle.std.proofs.lemmas.List.{get_or_default}
-use Rattle.source_pick.specs.Segmentation.{AreDisjointNodes}
+use Rattle.node_sums.specs.DisjointNodes.{AreDisjointNodes}
 use Rattle.source_pick.proofs.Exported.{tree-shape}
 use Rattle.source_sheet.specs.Backs.{ShowsNodes}
 use Rattle.source_sheet.proofs.Showing.{all_placed, map_is, cells_are}

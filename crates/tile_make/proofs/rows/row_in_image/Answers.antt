@@ -18,13 +18,13 @@ pub returns-clause-stands : goal.returns-clause-stands
 returns-clause-stands c =
     let t = c.requires.sums in
     let tree = c.args.tree.now in
-    let connect = t.of_plane.connect in
+    let connect = t.connect in
     let w = window_of_place c.args.place.now tree.shape in
     let node : c.args.node < length (nodes t.plane connect) =
-    omega (arith, c.requires.node, ap (λ (x : ComponentTree). length x.rows) t.of_plane.tree_is, length-rows t.plane connect) in
-    let shape : t.plane.shape ≡ tree.shape = sym (ap (λ (x : ComponentTree). x.shape) t.of_plane.tree_is ∙ shape-of t.plane connect) in
+    omega (arith, c.requires.node, ap (λ (x : ComponentTree). length x.rows) t.tree_is, length-rows t.plane connect) in
+    let shape : t.plane.shape ≡ tree.shape = sym (ap (λ (x : ComponentTree). x.shape) t.tree_is ∙ shape-of t.plane connect) in
     let same : c.in_image.result ≡ moved_row w (catalogue_row t.plane connect c.args.number c.args.node) =
-    c.in_image.ensures tree.shape ∙ ap (moved_row w) (c.row.ensures.exact t.plane connect t.of_plane.tree_is t.of_plane.sums_are) in
+    c.in_image.ensures tree.shape ∙ ap (moved_row w) (c.row.ensures.exact t.plane connect t.tree_is t.sums_are) in
     subst (FirstStandsIn c.args.place.now.whole) (sym same)
     (first_stands t.plane connect c.args.number c.args.node c.args.place.now.whole w t.one_each node shape c.requires.inside)
 
@@ -32,12 +32,12 @@ pub returns-clause-fits : goal.returns-clause-fits
 returns-clause-fits c =
     let t = c.requires.sums in
     let tree = c.args.tree.now in
-    let connect = t.of_plane.connect in
+    let connect = t.connect in
     let w = window_of_place c.args.place.now tree.shape in
     let node : c.args.node < length (nodes t.plane connect) =
-    omega (arith, c.requires.node, ap (λ (x : ComponentTree). length x.rows) t.of_plane.tree_is, length-rows t.plane connect) in
-    let shape : t.plane.shape ≡ tree.shape = sym (ap (λ (x : ComponentTree). x.shape) t.of_plane.tree_is ∙ shape-of t.plane connect) in
-    let row_is = c.row.ensures.exact t.plane connect t.of_plane.tree_is t.of_plane.sums_are in
+    omega (arith, c.requires.node, ap (λ (x : ComponentTree). length x.rows) t.tree_is, length-rows t.plane connect) in
+    let shape : t.plane.shape ≡ tree.shape = sym (ap (λ (x : ComponentTree). x.shape) t.tree_is ∙ shape-of t.plane connect) in
+    let row_is = c.row.ensures.exact t.plane connect t.tree_is t.sums_are in
     let stands : FirstStandsIn c.args.place.now.whole (moved_row w c.row.result) =
     subst (λ (x : CatRow). FirstStandsIn c.args.place.now.whole (moved_row w x)) (sym row_is)
     (first_stands t.plane connect c.args.number c.args.node c.args.place.now.whole w t.one_each node shape c.requires.inside) in

@@ -1,5 +1,6 @@
 use Rattle.std.proofs.Common.{arith}
 use Rattle.std.proofs.lemmas.Option.{slice_get-get_or}
+use Rattle.node_sums.proofs.Exported.{count_of_sums, sums_at, sums_of_one}
 use Rattle.tree_products.proofs.Cells.{few_picked, no_cells, cells_more, all_cells, cells_table}
 use Rattle.tree_products.proofs.detection.table_cells.Goals as goal
 
@@ -17,6 +18,12 @@ pub overflow_add-place : goal.overflow_add-place
 overflow_add-place c =
     let few = few_picked c.args.tree.now c.args.picked.now c.requires.disjoint in record { fits = omega (arith, few, c.loop-place-test.true) }
 
+pub bounds-sums-place : goal.bounds-sums-place
+bounds-sums-place c = omega (arith, count_of_sums c.args.tree.now c.args.picked.now c.args.sums.now c.requires.sums, c.loop-place-test.true)
+
+pub row-row-requires-clause-sums : goal.row-row-requires-clause-sums
+row-row-requires-clause-sums c = sums_of_one c.args.tree.now c.args.picked.now c.args.sums.now c.loop-place.place _ c.requires.sums c.loop-place-test.true
+
 pub row-row-requires-clause-node : goal.row-row-requires-clause-node
 row-row-requires-clause-node c = c.requires.disjoint.nodes c.loop-place.place _ (slice_get-get_or c.args.picked.now c.loop-place.place 0 c.loop-place-test.true)
 
@@ -27,7 +34,8 @@ pub loop-place-preserved : goal.loop-place-preserved
 loop-place-preserved c =
     cells_more c.args.tree.now c.args.sums.now c.args.picked.now c.loop-place.place _ _ c.row-row.result c.loop-place.invariant c.loop-place-test.true
     c.in_ok-add_row.ensures c.row-row.ensures.columns
-    c.row-row.ensures.exact
+    (λ plane connect tree_is sums_are. c.row-row.ensures.exact plane connect tree_is
+    (sums_at plane connect c.args.picked.now c.args.sums.now c.loop-place.place _ sums_are c.loop-place-test.true))
 
 pub returns-clause-exact : goal.returns-clause-exact
 returns-clause-exact c = λ plane connect tree_is sums_are.
