@@ -29,8 +29,8 @@ pub use Rattle.node_sums.proofs.Passes.{rows_are, numbers_for_pixels, parent_is,
 pub use Rattle.node_sums.proofs.Fluxes.{level-of_node, level_at_least, BaseCase, at_root, at_child, base-case, base-root, base-child}
 -- the flux is never negative, and grows with the component
 pub use Rattle.node_sums.proofs.Fluxes.{never_negative, flux_grows}
--- the flux by the sums of a node is the flux by the definition; there are sums for each row, and for each node
-pub use Rattle.node_sums.proofs.FluxOfSums.{sums-flux, flux-is, base_up_to, base_within, trees_rows, length-sums_in}
+-- the flux by the sums of a node is the flux by the definition; there are sums for each node
+pub use Rattle.node_sums.proofs.FluxOfSums.{sums-flux, flux-is, base_up_to, base_within, length-sums_in}
 -- there is an outline for each row
 pub use Rattle.node_sums.proofs.OutlineFlux.{outlines_rows}
 -- ways upwards: which components lie within which, and levels along them; rows and nodes have the same numbers

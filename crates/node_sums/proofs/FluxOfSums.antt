@@ -17,7 +17,8 @@ use Rattle.comp_tree.specs.Laws.{top_of}
 use Rattle.comp_tree.proofs.Exported.{bound_most, bound_of_sum, length-rows}
 use Rattle.comp_tree.specs.Limits.{value_bound}
 use Rattle.node_sums.specs.declared.entry.Sums.{Sums}
-use Rattle.node_sums.specs.Sums.{sums_over, sums_of, sums_in, AreTheTrees, AreSumsOfNode}
+use Rattle.node_sums.specs.Sums.{sums_over, sums_of, sums_in, AreSumsOfNode}
+use Rattle.node_sums.specs.OutlinePasses.{AreTheTrees}
 use Rattle.node_sums.specs.Flux.{base_of, flux_of}
 use Rattle.node_sums.specs.Sizes.{IsUpTo, HasSizes, HasFluxSizes, level_bound, total_bound}
 use Rattle.node_sums.proofs.Sizes.{sizes, filtered_pixels, level_within, length-filter-le, up_to-times, up_to-minus, up_to_more}

@@ -21,7 +21,7 @@ use Rattle.comp_tree.proofs.Exported as Nodes
 use Rattle.node_sums.specs.declared.entry.Sums.{Sums}
 use Rattle.node_sums.specs.Sums.{sums_over, sums_of, AreSumsOfNode, AreSumsOfNodes}
 use Rattle.node_sums.specs.Sizes.{IsUpTo}
-use Rattle.node_sums.specs.DisjointNodes.{node_number_at, AreDisjointNodes, AreNumbered}
+use Rattle.node_sums.specs.DisjointNodes.{listed_number_at, AreDisjointNodes, AreNumbered}
 use Rattle.node_sums.specs.Merging.{sums_at_place, is_own, AreOwn, AreOwnTo, place_from, places_of}
 use Rattle.node_sums.proofs.Passes.{range-push, filter_no, filter_same, IsTurn, turn_from_code, numbers_for_pixels, number_below}
 use Rattle.node_sums.proofs.Marks.{few_marked, few_rows, number-found, number_of_defined, number_bound}
@@ -140,7 +140,7 @@ module _ (r : Raster) (connect : Connect) (tree : ComponentTree) (listed numbers
   few = omega (arith, few_marked tree listed d, few_rows tree listed d)
 
   -- the place of a defined pixel
-  place_of_defined : (q : ℕ) → is_defined r q ≡ true → slice_index (places_of numbers tree.node_of) q ≡ place_from (node_number_at r connect listed q)
+  place_of_defined : (q : ℕ) → is_defined r q ≡ true → slice_index (places_of numbers tree.node_of) q ≡ place_from (listed_number_at r connect listed q)
   place_of_defined q on =
       place-read numbers tree.node_of q within
       ∙ ap place_from (known.each r connect plane same (slice_index tree.node_of q) both.0 ∙ both.1)
@@ -152,7 +152,7 @@ module _ (r : Raster) (connect : Connect) (tree : ComponentTree) (listed numbers
       below = number_below r tree (connect, same) q on
 
       both : (slice_index tree.node_of q < length tree.rows)
-          × (node_number_at r connect listed (top_of r connect (slice_index tree.node_of q)) ≡ node_number_at r connect listed q)
+          × (listed_number_at r connect listed (top_of r connect (slice_index tree.node_of q)) ≡ listed_number_at r connect listed q)
       both = number_of_defined r connect tree listed plane same d q (slice_index tree.node_of q) within refl
           (λ e. absurd (omega (arith, e, below, few_rows tree listed d)))
 
@@ -161,22 +161,22 @@ module _ (r : Raster) (connect : Connect) (tree : ComponentTree) (listed numbers
   number_from_place (suc k) i l e = omega (arith, e)
 
   holds_same : (i n q : ℕ) → slice_get listed i ≡ Some n → is_own r (places_of numbers tree.node_of) i q ≡ is_in_node r connect n q
-  unfolding node_number_at
+  unfolding listed_number_at
   holds_same i n q g = same_bool (is_own r (places_of numbers tree.node_of) i q) (is_in_node r connect n q) there back
     where
       there : is_own r (places_of numbers tree.node_of) i q ≡ true → is_in_node r connect n q ≡ true
       there k =
           let both = and_parts (is_defined r q) (slice_index (places_of numbers tree.node_of) q == i) k in
-          let at : place_from (node_number_at r connect listed q) ≡ i =
+          let at : place_from (listed_number_at r connect listed q) ≡ i =
           sym (place_of_defined q both.0) ∙ eqb-true (slice_index (places_of numbers tree.node_of) q) i both.1 in
-          let number : node_number_at r connect listed q ≡ i + 1 =
-          number_from_place (node_number_at r connect listed q) i (slice_get_within listed i n g) at in
+          let number : listed_number_at r connect listed q ≡ i + 1 =
+          number_from_place (listed_number_at r connect listed q) i (slice_get_within listed i n g) at in
           place_holds (λ m. is_in_node r connect m q) 1 listed i n (omega arith) g (number ∙ omega arith)
 
       back : is_in_node r connect n q ≡ true → is_own r (places_of numbers tree.node_of) i q ≡ true
       back k =
           let on : is_defined r q ≡ true = in_node-defined r connect n q k in
-          let number : node_number_at r connect listed q ≡ i + 1 = number-found r connect tree listed plane same d i n q g k in
+          let number : listed_number_at r connect listed q ≡ i + 1 = number-found r connect tree listed plane same d i n q g k in
           and_from (is_defined r q) (slice_index (places_of numbers tree.node_of) q == i) on
           (eq-eqb (slice_index (places_of numbers tree.node_of) q) i
           (place_of_defined q on ∙ ap place_from (number ∙ add-one i)))

@@ -16,7 +16,7 @@ use Rattle.comp_tree.specs.Laws.{top_of, parent_of_node}
 use Rattle.comp_tree.proofs.Exported.{top-defined, node_of_top, below_no_node, pixels_belong_to_their_ancestors, length-nodes-le, read-node_of}
 use Rattle.comp_tree.proofs.Exported.{in_node-defined, top_inside}
 use Rattle.comp_tree.proofs.Exported as Nodes
-use Rattle.node_sums.specs.DisjointNodes.{node_number_at, AreDisjointNodes, AreNumbered}
+use Rattle.node_sums.specs.DisjointNodes.{listed_number_at, AreDisjointNodes, AreNumbered}
 use Rattle.node_sums.specs.NodeNumbers.{IsOnWay, AreMarked}
 use Rattle.node_sums.proofs.Ways.{within_from_way, way_from_shared, HasParent, way_up, way_of_child}
 use Rattle.node_sums.proofs.Ways.{node_from_row, row_from_node}
@@ -164,23 +164,23 @@ module _ (r : Raster) (connect : Connect) (tree : ComponentTree) (marked : List 
       (subst (λ (x : ComponentTree). IsOnWay x.rows s t ⊎ IsOnWay x.rows t s) (sym same)
       (way_from_shared r connect s t q plane (is_node i s f) (is_node j t g) in_s in_t))
 
-  pub number-found : (i s p : ℕ) → slice_get marked i ≡ Some s → is_in_node r connect s p ≡ true → node_number_at r connect marked p ≡ i + 1
-  unfolding node_number_at
+  pub number-found : (i s p : ℕ) → slice_get marked i ≡ Some s → is_in_node r connect s p ≡ true → listed_number_at r connect marked p ≡ i + 1
+  unfolding listed_number_at
   number-found i s p g h =
       place_found (λ n. is_in_node r connect n p) 1 marked i s g h
       (λ j u l f. false_from_ne_true (is_in_node r connect u p) (λ k. apart j i u s p l f g k h)) ∙ omega arith
 
-  pub number-none : (p : ℕ) → ((j u : ℕ) → slice_get marked j ≡ Some u → is_in_node r connect u p ≡ false) → node_number_at r connect marked p ≡ 0
-  unfolding node_number_at
+  pub number-none : (p : ℕ) → ((j u : ℕ) → slice_get marked j ≡ Some u → is_in_node r connect u p ≡ false) → listed_number_at r connect marked p ≡ 0
+  unfolding listed_number_at
   number-none p h = place_none (λ n. is_in_node r connect n p) 1 marked h
 
   pub number-same : (p q : ℕ) → ((j u : ℕ) → slice_get marked j ≡ Some u → is_in_node r connect u p ≡ is_in_node r connect u q)
-      → node_number_at r connect marked p ≡ node_number_at r connect marked q
-  unfolding node_number_at
+      → listed_number_at r connect marked p ≡ listed_number_at r connect marked q
+  unfolding listed_number_at
   number-same p q h = ap (λ (o : Option ℕ). unwrap_or o 0) (place_same (λ n. is_in_node r connect n p) (λ n. is_in_node r connect n q) 1 marked h)
 
-  pub number_bound : (p : ℕ) → node_number_at r connect marked p ≤ length marked
-  unfolding node_number_at
+  pub number_bound : (p : ℕ) → listed_number_at r connect marked p ≤ length marked
+  unfolding listed_number_at
   number_bound p =
       let b : unwrap_or (position_from (λ n. is_in_node r connect n p) 1 marked) 0 + 1 ≤ 1 + length marked =
       place_bound (λ n. is_in_node r connect n p) 1 marked (omega arith) in omega arith
@@ -192,12 +192,12 @@ module _ (r : Raster) (connect : Connect) (tree : ComponentTree) (marked : List 
       subst (λ (x : ℕ). (is_in_node r connect u (top_of r connect m) ≡ true) ↔ IsOnWay (tree_of r connect).rows u x) (node_of_top r connect m hm)
       (holds-way r connect u (top_of r connect m) plane hu (top-defined r connect m hm))
 
-  pub number_of_marked : (i n : ℕ) → n < length tree.rows → slice_get marked i ≡ Some n → node_number_at r connect marked (top_of r connect n) ≡ i + 1
+  pub number_of_marked : (i n : ℕ) → n < length tree.rows → slice_get marked i ≡ Some n → listed_number_at r connect marked (top_of r connect n) ≡ i + 1
   number_of_marked i n h g = number-found i n (top_of r connect n) g (top_inside r connect n (node n h))
 
   -- a node that isn't in the list
   pub number_of_child : (n p : ℕ) → n < length tree.rows → p ≡ parent_of_node r connect n → p < n → ((j : ℕ) → slice_get marked j ≡ Some n → ⊥)
-      → node_number_at r connect marked (top_of r connect p) ≡ node_number_at r connect marked (top_of r connect n)
+      → listed_number_at r connect marked (top_of r connect p) ≡ listed_number_at r connect marked (top_of r connect n)
   number_of_child n p h is_parent l out = number-same (top_of r connect p) (top_of r connect n) each
     where
       hn : n < length (nodes r connect)
@@ -223,7 +223,7 @@ module _ (r : Raster) (connect : Connect) (tree : ComponentTree) (marked : List 
           up k = from ((top_way u n (is_node j u g) hn).0 k)
 
   pub number_of_root : (n p : ℕ) → n < length tree.rows → p ≡ parent_of_node r connect n → p ≡ no_node → ((j : ℕ) → slice_get marked j ≡ Some n → ⊥)
-      → node_number_at r connect marked (top_of r connect n) ≡ 0
+      → listed_number_at r connect marked (top_of r connect n) ≡ 0
   number_of_root n p h is_parent none out =
       number-none (top_of r connect n) (λ j u g. false_from_ne_true (is_in_node r connect u (top_of r connect n))
       (λ k. from j u g ((top_way u n (is_node j u g) (node n h)).0 k)))
@@ -247,14 +247,14 @@ module _ (r : Raster) (connect : Connect) (tree : ComponentTree) (marked : List 
   undefined_none p e = rw e refl
 
   pub number_of_defined : (p n : ℕ) → p < length tree.node_of → n ≡ slice_index tree.node_of p → (n ≡ no_node → ⊥)
-      → (n < length tree.rows) × (node_number_at r connect marked (top_of r connect n) ≡ node_number_at r connect marked p)
+      → (n < length tree.rows) × (listed_number_at r connect marked (top_of r connect n) ≡ listed_number_at r connect marked p)
   number_of_defined p n h e some = go (is_defined r p) refl
     where
       is : n ≡ node_of r connect p
       is = e ∙ numbers_read p h
 
       go : (b : Bool) → is_defined r p ≡ b
-          → (n < length tree.rows) × (node_number_at r connect marked (top_of r connect n) ≡ node_number_at r connect marked p)
+          → (n < length tree.rows) × (listed_number_at r connect marked (top_of r connect n) ≡ listed_number_at r connect marked p)
       go false u = absurd (some (is ∙ undefined_none p u))
       go true u =
           (let l : length tree.rows ≡ length (nodes r connect) = rows_are r connect tree same in omega (arith, hn), number-same (top_of r connect n) p each)
@@ -269,7 +269,7 @@ module _ (r : Raster) (connect : Connect) (tree : ComponentTree) (marked : List 
               (λ k. (top_way v n (is_node j v g) hn).1
               (subst (λ (x : ℕ). IsOnWay (tree_of r connect).rows v x) (sym is) ((holds-way r connect v p plane (is_node j v g) u).0 k)))
 
-  pub number_of_undefined : (p n : ℕ) → p < length tree.node_of → n ≡ slice_index tree.node_of p → n ≡ no_node → node_number_at r connect marked p ≡ 0
+  pub number_of_undefined : (p n : ℕ) → p < length tree.node_of → n ≡ slice_index tree.node_of p → n ≡ no_node → listed_number_at r connect marked p ≡ 0
   number_of_undefined p n h e none =
       number-none p (λ j u g. false_from_ne_true (is_in_node r connect u p) (λ k.
       below_no_node r connect (node_of r connect p) plane (Nodes.node_of-is r connect p (in_node-defined r connect u p k)).below
@@ -327,7 +327,7 @@ pub numbered_child : (tree : ComponentTree) (marked first numbers : List ℕ) (n
 numbered_child tree marked first numbers n p x d m h inside zeros is_parent l e = record {
   one_each = length-set numbers n x ∙ h.one_each;
   each = λ r connect plane same.
-      filled numbers n x 0 (λ k. node_number_at r connect marked (top_of r connect k)) (let a : length numbers ≡ length tree.rows = h.one_each in omega arith)
+      filled numbers n x 0 (λ k. listed_number_at r connect marked (top_of r connect k)) (let a : length numbers ≡ length tree.rows = h.one_each in omega arith)
       (h.each r connect plane same)
       (e ∙ h.each r connect plane same p l
       ∙ number_of_child r connect tree marked plane same d n p inside (sym is_parent ∙ ap (λ (t : ComponentTree). parent_in t.rows n) same) l
@@ -336,15 +336,15 @@ numbered_child tree marked first numbers n p x d m h inside zeros is_parent l e 
 
 one_further : (tree : ComponentTree) (marked numbers : List ℕ) (n : ℕ) → AreNumbered tree marked n numbers
     → ((r : Raster) (connect : Connect) → IsPlane r → tree ≡ tree_of r connect → slice_index numbers n
-    ≡ node_number_at r connect marked (top_of r connect n)) → AreNumbered tree marked (n + 1) numbers
+    ≡ listed_number_at r connect marked (top_of r connect n)) → AreNumbered tree marked (n + 1) numbers
 one_further tree marked numbers n h here = record { one_each = h.one_each; each = λ r connect plane same k l. go r connect plane same k (cases_lt k n) l }
   where
     go : (r : Raster) (connect : Connect) → IsPlane r → tree ≡ tree_of r connect → (k : ℕ) → (k < n) ⊎ (n ≤ k) → k < n + 1
-        → slice_index numbers k ≡ node_number_at r connect marked (top_of r connect k)
+        → slice_index numbers k ≡ listed_number_at r connect marked (top_of r connect k)
     go r connect plane same k (inl x) l = h.each r connect plane same k x
     go r connect plane same k (inr x) l =
         let e : n ≡ k =
-        omega arith in subst (λ (y : ℕ). slice_index numbers y ≡ node_number_at r connect marked (top_of r connect y)) e (here r connect plane same)
+        omega arith in subst (λ (y : ℕ). slice_index numbers y ≡ listed_number_at r connect marked (top_of r connect y)) e (here r connect plane same)
 
 pub numbered_marked : (tree : ComponentTree) (marked first numbers : List ℕ) (n : ℕ) → AreDisjointNodes tree marked
     → AreMarked (length tree.rows) marked (length marked) first
@@ -355,7 +355,7 @@ numbered_marked tree marked first numbers n d m h inside still some =
   where
     go : (r : Raster) (connect : Connect) → IsPlane r → tree ≡ tree_of r connect
         → (slice_index first n ≡ 0) ⊎ ((i : ℕ) × (i < length marked) × (slice_get marked i ≡ Some n) × (slice_index first n ≡ i + 1))
-        → slice_index numbers n ≡ node_number_at r connect marked (top_of r connect n)
+        → slice_index numbers n ≡ listed_number_at r connect marked (top_of r connect n)
     go r connect plane same (inl z) = absurd (some (still ∙ z))
     go r connect plane same (inr (i, l, g, z)) = still ∙ z ∙ sym (number_of_marked r connect tree marked plane same d i n inside g)
 

@@ -10,7 +10,8 @@ use Rattle.comp_tree.specs.Components.{tree_of}
 use Rattle.comp_tree.proofs.Exported.{length-rows}
 use Rattle.node_sums.specs.declared.entry.Sums.{Sums}
 use Rattle.node_sums.specs.declared.outline.Outline.{Outline}
-use Rattle.node_sums.specs.Sums.{sums_over, sums_in, AreTheTrees}
+use Rattle.node_sums.specs.Sums.{sums_over, sums_in}
+use Rattle.node_sums.specs.OutlinePasses.{AreTheTrees}
 use Rattle.node_sums.specs.Flux.{base_of, flux_of}
 use Rattle.node_sums.specs.Sizes.{HasFluxSizes}
 use Rattle.node_sums.specs.Outlines.{outline_of, outlines_in, AreOutlinesOfTree}

@@ -23,7 +23,7 @@ use Rattle.comp_tree.specs.Nesting.{pixels_of}
 use Rattle.comp_tree.proofs.Exported.{length-rows, below_no_node, row-parent}
 use Rattle.comp_tree.proofs.Exported as Nodes
 use Rattle.node_sums.specs.declared.entry.Sums.{Sums}
-use Rattle.node_sums.specs.Sums.{sums_over, sums_of, sums_in, IsTreeOfPlane, AreOfPlane, AreTheTrees}
+use Rattle.node_sums.specs.Sums.{sums_over, sums_of, sums_in, IsTreeOfPlane}
 use Rattle.node_sums.specs.Sizes.{IsUpTo, HasSizes, level_bound}
 use Rattle.node_sums.specs.Counted.{is_counted}
 use Rattle.node_sums.specs.Merging.{together, sums_of_pixel, is_own, AreCounted, AreOwn, AreOwnTo, sums_at_place}
@@ -457,16 +457,3 @@ pub number_below : (r : Raster) (tree : ComponentTree) → IsTreeOfPlane r tree 
 number_below r tree (connect, e) p d =
     let is : slice_index tree.node_of p ≡ node_of r connect p = ap (λ (t : ComponentTree). slice_index t.node_of p) e ∙ number-is r connect p d in
     omega (arith, is, (Nodes.node_of-is r connect p d).below, ap (λ (t : ComponentTree). length t.rows) e, length-rows r connect)
-
-pub of_plane_from_counted : (r : Raster) (tree : ComponentTree) (sums : List Sums) → IsTreeOfPlane r tree → AreCounted r tree 0 sums → AreOfPlane r tree sums
-of_plane_from_counted r tree sums (connect, e) h = record { connect = connect; tree_is = e; sums_are = sums_from_counted r connect tree sums h e }
-
-pub trees_from_counted : (r : Raster) (tree : ComponentTree) (sums : List Sums) → IsPlane r → HasValuesInRange r.values → IsTreeOfPlane r tree
-    → AreCounted r tree 0 sums
-    → AreTheTrees tree sums
-trees_from_counted r tree sums plane range of_plane h = record {
-  plane = r;
-  one_each = plane;
-  in_range = range;
-  of_plane = of_plane_from_counted r tree sums of_plane h;
-}

@@ -17,11 +17,11 @@ pub record AreDisjointNodes (tree : ComponentTree) (marked : List ℕ) : Type 0 
   pub disjoint : (i j s t : ℕ) → i < j → slice_get marked i ≡ Some s → slice_get marked j ≡ Some t → AreDisjoint plane connect s t
 
 -- the place from 1 of the node in the list whose component holds pixel p, and 0 where none does
-unfoldable pub node_number_at : Raster → Connect → List ℕ → ℕ → ℕ
-node_number_at r connect marked p = unwrap_or (position_from (λ n. is_in_node r connect n p) 1 marked) 0
+unfoldable pub listed_number_at : Raster → Connect → List ℕ → ℕ → ℕ
+listed_number_at r connect marked p = unwrap_or (position_from (λ n. is_in_node r connect n p) 1 marked) 0
 
 -- the first count nodes have the number of the node of the list that is on their way upwards
 pub record AreNumbered (tree : ComponentTree) (marked : List ℕ) (count : ℕ) (numbers : List ℕ) : Type 0 where
   pub one_each : length numbers ≡ length tree.rows
   pub each : (r : Raster) (connect : Connect) → IsPlane r → tree ≡ tree_of r connect → (n : ℕ) → n < count
-      → slice_index numbers n ≡ node_number_at r connect marked (top_of r connect n)
+      → slice_index numbers n ≡ listed_number_at r connect marked (top_of r connect n)

@@ -65,24 +65,6 @@ sums_in r connect = map (sums_of r connect) (node_numbers r connect)
 abbrev pub IsTreeOfPlane : Raster → ComponentTree → Type 0
 IsTreeOfPlane r tree = (connect : Connect) × (tree ≡ tree_of r connect)
 
--- the tree and the sums are those of the plane r, for some connectivity
-pub record AreOfPlane (r : Raster) (tree : ComponentTree) (sums : List Sums) : Type 0 where
-  pub connect : Connect
-  pub tree_is : tree ≡ tree_of r connect
-  pub sums_are : sums ≡ sums_in r connect
-
--- the sums are the tree's: some plane has this tree for some connectivity, and these sums
-pub record AreTheTrees (tree : ComponentTree) (sums : List Sums) : Type 0 where
-  pub plane : Raster
-  pub one_each : IsPlane plane
-  pub in_range : HasValuesInRange plane.values
-  pub of_plane : AreOfPlane plane tree sums
-
--- what is said of each plane and connectivity that have this tree and these sums
-abbrev pub ForEachPlaneOf : ComponentTree → List Sums → (Raster → Connect → Type 0) → Type 0
-ForEachPlaneOf tree sums Statement =
-    (plane : Raster) (connect : Connect) → tree ≡ tree_of plane connect → sums ≡ sums_in plane connect → Statement plane connect
-
 -- the sums are those of node n of the tree: some plane has this tree for some connectivity, and the node these sums there
 pub record AreSumsOfNode (tree : ComponentTree) (n : ℕ) (sums : Sums) : Type 0 where
   pub plane : Raster

@@ -1,7 +1,6 @@
 //! Sums over the components of a component tree's nodes, and the flux of a node.
 #![tactic(auto)]
 
-mod adding;
 mod area;
 mod entry;
 pub mod laws;
@@ -10,7 +9,6 @@ mod measures;
 mod numbering;
 mod outline;
 
-pub use adding::sums;
 pub use area::areas;
 pub use entry::Sums;
 pub use listed::sums_of_nodes;

@@ -15,7 +15,7 @@ use Rattle.node_sums.specs.Sums.{sums_of}
 use Rattle.node_sums.proofs.Exported.{y_small}
 use Rattle.source_pick.specs.declared.choice.Choice.{Choice}
 use Rattle.source_pick.specs.Sources.{is_source, sources}
-use Rattle.node_sums.specs.DisjointNodes.{node_number_at}
+use Rattle.node_sums.specs.DisjointNodes.{listed_number_at}
 use Rattle.source_pick.specs.Segmentation.{segmentation_of, segmentation}
 use Rattle.source_pick.specs.Catalogue.{catalogue_row, catalogue_of, catalogue}
 use Rattle.source_pick.specs.Locality.{AgreeNearHigh, SourcesAreLocal}
@@ -37,14 +37,14 @@ catalogue-is r connect choice = refl
 
 -- the numbers of all pixels
 pub segmentation-is : (r : Raster) (connect : Connect) (choice : Choice)
-    → segmentation r connect choice ≡ map (node_number_at r connect (sources r connect choice)) (pixels r)
+    → segmentation r connect choice ≡ map (listed_number_at r connect (sources r connect choice)) (pixels r)
 unfolding segmentation segmentation_of
 segmentation-is r connect choice = refl
 
 -- the number of a pixel: the place of the source that has it
 pub number-is : (r : Raster) (connect : Connect) (choice : Choice) (p : ℕ)
-    → node_number_at r connect (sources r connect choice) p ≡ unwrap_or (position_from (λ n. is_in_node r connect n p) 1 (sources r connect choice)) 0
-unfolding node_number_at
+    → listed_number_at r connect (sources r connect choice) p ≡ unwrap_or (position_from (λ n. is_in_node r connect n p) 1 (sources r connect choice)) 0
+unfolding listed_number_at
 number-is r connect choice p = refl
 
 -- ---- the law
@@ -120,7 +120,7 @@ module _ (r s : Raster) (connect : Connect) (choice : Choice) (plane_r : IsPlane
       (sources_rise r connect choice plane_r) (sources_rise s connect choice plane_s) there back
 
   -- each pixel has one number
-  number_same : (p : ℕ) → node_number_at r connect (sources r connect choice) p ≡ node_number_at s connect (sources s connect choice) p
+  number_same : (p : ℕ) → listed_number_at r connect (sources r connect choice) p ≡ listed_number_at s connect (sources s connect choice) p
   number_same p =
       number-is r connect choice p
       ∙ ap (λ (o : Option ℕ). unwrap_or o 0)
@@ -132,7 +132,7 @@ module _ (r s : Raster) (connect : Connect) (choice : Choice) (plane_r : IsPlane
   numbers_same =
       segmentation-is r connect choice
       ∙ ap (λ (f : ℕ → ℕ). map f (pixels r)) (λ i p. number_same p i)
-      ∙ ap (map (node_number_at s connect (sources s connect choice))) (above_pixels r s choice.threshold above)
+      ∙ ap (map (listed_number_at s connect (sources s connect choice))) (above_pixels r s choice.threshold above)
       ∙ sym (segmentation-is s connect choice)
 
   -- partners stand at one place

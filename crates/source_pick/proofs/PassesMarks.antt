@@ -10,7 +10,7 @@ use Rattle.comp_tree.specs.declared.shape.Connect.{Connect}
 use Rattle.comp_tree.specs.Raster.{Raster, pixels}
 use Rattle.comp_tree.specs.ComponentTree.{ComponentTree}
 use Rattle.comp_tree.specs.Components.{tree_of}
-use Rattle.node_sums.specs.DisjointNodes.{node_number_at, AreDisjointNodes}
+use Rattle.node_sums.specs.DisjointNodes.{listed_number_at, AreDisjointNodes}
 use Rattle.node_sums.proofs.Exported.{few_marked, few_rows, number_bound}
 use Rattle.source_pick.specs.Segmentation.{segmentation_of}
 use Rattle.source_pick.proofs.PassesReadings.{numbers-length}
@@ -36,10 +36,10 @@ zeros_part xs part start none each k = go (cases_lt k (length part))
 
 pub pixels_all : (r : Raster) (connect : Connect) (tree : ComponentTree) (marked numbers : List ℕ) → tree ≡ tree_of r connect
     → length numbers ≡ length tree.node_of
-    → ((p : ℕ) → p < length tree.node_of → slice_index numbers p ≡ node_number_at r connect marked p) → numbers ≡ segmentation_of r connect marked
+    → ((p : ℕ) → p < length tree.node_of → slice_index numbers p ≡ listed_number_at r connect marked p) → numbers ≡ segmentation_of r connect marked
 unfolding segmentation_of pixels
 pixels_all r connect tree marked numbers same l h =
-    fill_by_all (node_number_at r connect marked) numbers (length r.values) 0 (l ∙ numbers-length r connect tree same)
+    fill_by_all (listed_number_at r connect marked) numbers (length r.values) 0 (l ∙ numbers-length r connect tree same)
     (λ p x. h p (let e : length tree.node_of ≡ length r.values = numbers-length r connect tree same in omega arith))
 
 pub map_bound : (tree : ComponentTree) (marked numbers : List ℕ) → (d : AreDisjointNodes tree marked) → numbers ≡ segmentation_of d.plane d.connect marked
@@ -57,14 +57,14 @@ map_bound tree marked numbers d e p = go (cases_lt p (length d.plane.values))
 
     go : (p < length d.plane.values) ⊎ (length d.plane.values ≤ p) → slice_index numbers p ≤ 2147483647
     go (inl l) =
-        let a : slice_index numbers p ≡ node_number_at d.plane d.connect marked p =
+        let a : slice_index numbers p ≡ listed_number_at d.plane d.connect marked p =
         ap (λ (xs : List ℕ). slice_index xs p) e
-        ∙ get_or-map-range_with_len (node_number_at d.plane d.connect marked) 0 (length d.plane.values) p p 0 l (omega arith) in
-        let b : node_number_at d.plane d.connect marked p ≤ length marked = number_bound d.plane d.connect tree marked d.one_each d.tree_is d p in
+        ∙ get_or-map-range_with_len (listed_number_at d.plane d.connect marked) 0 (length d.plane.values) p p 0 l (omega arith) in
+        let b : listed_number_at d.plane d.connect marked p ≤ length marked = number_bound d.plane d.connect tree marked d.one_each d.tree_is d p in
         omega (arith, few)
     go (inr l) =
         let n : length numbers ≡ length d.plane.values =
-        ap length e ∙ length-map (range_with_len 0 (length d.plane.values)) (node_number_at d.plane d.connect marked)
+        ap length e ∙ length-map (range_with_len 0 (length d.plane.values)) (listed_number_at d.plane d.connect marked)
         ∙ length-range_with_len 0 (length d.plane.values) in
         let z : slice_index numbers p ≡ 0 = past numbers p (omega arith) in
         omega arith

@@ -19,7 +19,7 @@ use Rattle.source_pick.specs.declared.catalogue.CatRow.{CatRow}
 use Rattle.source_pick.specs.Sources.{is_source, sources}
 use Rattle.source_pick.specs.Catalogue.{catalogue_row, moved_row}
 use Rattle.source_pick.specs.Sheets.{Part, IsPartOf, IsHeld, IsMovedSource, HeldPixelsHoldSources, SourcesStandInTheSheet, SourcesComeFromThePlane}
-use Rattle.node_sums.specs.DisjointNodes.{node_number_at}
+use Rattle.node_sums.specs.DisjointNodes.{listed_number_at}
 use Rattle.source_pick.specs.Sheets.{taken_back, row_back, sheet_rows, SheetGivesTheCatalogue, IsSheetOf, AreTakenBack}
 use Rattle.source_pick.specs.Sheets.{put_on, from_box, has_on_sheet, sheet_number, SheetGivesTheMap}
 use Rattle.source_pick.proofs.LocalityHighNodes.{top_high}
@@ -319,7 +319,7 @@ unfolding sheet_number
 sheet_gives_the_map r s connect choice parts found plane_r plane_s sheet k =
     segmentation-is r connect choice ∙ ap (λ (f : ℕ → ℕ). map f (pixels r)) (λ i p. number p i)
   where
-    number : (p : ℕ) → node_number_at r connect (sources r connect choice) p ≡ unwrap_or (position_from (has_on_sheet r s connect p) 1 found) 0
+    number : (p : ℕ) → listed_number_at r connect (sources r connect choice) p ≡ unwrap_or (position_from (has_on_sheet r s connect p) 1 found) 0
     number p =
         number-is r connect choice p
         ∙ ap (λ (o : Option ℕ). unwrap_or o 0)

@@ -10,7 +10,7 @@ use Rattle.node_sums.specs.declared.entry.Sums.{Sums}
 use Rattle.node_sums.specs.declared.outline.Outline.{Outline}
 use Rattle.node_sums.specs.Sums.{sums_of}
 use Rattle.node_sums.specs.Outlines.{ForEachPlaneOutlined}
-use Rattle.node_sums.specs.DisjointNodes.{node_number_at, AreDisjointNodes, AreNumbered}
+use Rattle.node_sums.specs.DisjointNodes.{listed_number_at, AreDisjointNodes, AreNumbered}
 use Rattle.node_sums.specs.NodeNumbers.{IsOnWay}
 use Rattle.source_pick.specs.declared.choice.Choice.{Choice}
 use Rattle.source_pick.specs.declared.picking.PlacedSource.{PlacedSource}
@@ -132,4 +132,4 @@ placed_sums placed = map (λ (source : PlacedSource). source.sums) placed
 -- the map of the pixels from start on has the numbers of the first count of them, if `numbers` has those of the nodes
 pub record HavePixelNumbers (tree : ComponentTree) (numbers : List ℕ) (start count : ℕ) (map : List ℕ) : Type 0 where
   pub each : (marked : List ℕ) (r : Raster) (connect : Connect) → AreDisjointNodes tree marked → AreNumbered tree marked (length tree.rows) numbers
-      → tree ≡ tree_of r connect → (k : ℕ) → k < count → slice_index map k ≡ node_number_at r connect marked (start + k)
+      → tree ≡ tree_of r connect → (k : ℕ) → k < count → slice_index map k ≡ listed_number_at r connect marked (start + k)

@@ -2,13 +2,13 @@
 use Rattle.std.specs.Prelude.{ℕ, List, map}
 use Rattle.comp_tree.specs.declared.shape.Connect.{Connect}
 use Rattle.comp_tree.specs.Raster.{Raster, pixels}
-use Rattle.node_sums.specs.DisjointNodes.{node_number_at}
+use Rattle.node_sums.specs.DisjointNodes.{listed_number_at}
 use Rattle.source_pick.specs.declared.choice.Choice.{Choice}
 use Rattle.source_pick.specs.Sources.{sources}
 
 -- the map over the nodes of a list: a number for each pixel
 unfoldable pub segmentation_of : Raster → Connect → List ℕ → List ℕ
-segmentation_of r connect marked = map (node_number_at r connect marked) (pixels r)
+segmentation_of r connect marked = map (listed_number_at r connect marked) (pixels r)
 
 -- the map over the sources
 unfoldable pub segmentation : Raster → Connect → Choice → List ℕ

@@ -118,11 +118,11 @@ module _ (laws : MapLaws) (s : Raster) (connect : Connect) (choice : Choice) (pl
 
   map_length : length (segmentation s connect choice) ≡ length s.values
   unfolding segmentation segmentation_of
-  map_length = length-map (pixels s) (node_number_at s connect picked) ∙ length-pixels s
+  map_length = length-map (pixels s) (listed_number_at s connect picked) ∙ length-pixels s
 
   map_at : (q : ℕ) → q < length s.values → slice_index (segmentation s connect choice) q ≡ number_from (λ n. is_in_node s connect n q) 1 picked
-  unfolding segmentation segmentation_of node_number_at pixels
-  map_at q l = get_or-map-range_with_len (node_number_at s connect picked) 0 (length s.values) q q 0 l (omega arith)
+  unfolding segmentation segmentation_of listed_number_at pixels
+  map_at q l = get_or-map-range_with_len (listed_number_at s connect picked) 0 (length s.values) q q 0 l (omega arith)
 
   -- the source that a pixel of the map names
   pub record IsNamed (q k : ℕ) : Type 0 where

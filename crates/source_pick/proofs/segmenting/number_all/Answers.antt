@@ -1,6 +1,6 @@
 use Rattle.std.proofs.Common.{◌≡◌, ◌∙◌, ap, arith, length, zero-add}
 use Rattle.std.proofs.lemmas.List.{length-replicate}
-use Rattle.node_sums.specs.DisjointNodes.{node_number_at}
+use Rattle.node_sums.specs.DisjointNodes.{listed_number_at}
 use Rattle.node_sums.proofs.Exported.{zeros_replicate}
 use Rattle.source_pick.proofs.PassesMarks.{pixels_all}
 use Rattle.source_pick.proofs.segmenting.number_all.Goals as goal
@@ -17,4 +17,4 @@ pub returns : goal.returns
 returns c = λ marked plane connect d known same.
     let size : length c.args.map.now ≡ length c.args.tree.now.node_of = ap length c.requires.blank ∙ length-replicate (length c.args.tree.now.node_of) 0 in
     pixels_all plane connect c.args.tree.now marked c.number_pixels.new.map same (c.number_pixels.auto.map ∙ size)
-    (λ i l. c.number_pixels.ensures.each marked plane connect d known same i (omega arith) ∙ ap (node_number_at plane connect marked) (zero-add i))
+    (λ i l. c.number_pixels.ensures.each marked plane connect d known same i (omega arith) ∙ ap (listed_number_at plane connect marked) (zero-add i))
