@@ -17,7 +17,7 @@ use Rattle.comp_tree.proofs.Exported.{IsAt, in_whole-at, in_whole-below, some_co
 use Rattle.node_sums.specs.Sums.{sums_of}
 use Rattle.source_pick.specs.declared.choice.Choice.{Choice}
 use Rattle.source_pick.specs.Catalogue.{catalogue, cells_of}
-use Rattle.node_sums.specs.DisjointNodes.{node_number_at, AreDisjointNodes}
+use Rattle.node_sums.specs.DisjointNodes.{listed_number_at, AreDisjointNodes}
 use Rattle.source_pick.specs.Segmentation.{segmentation_of, segmentation}
 use Rattle.source_pick.proofs.Exported.{few_marked, few_rows}
 use Rattle.source_pick.specs.Sheets.{Part, taken_back, window_size, put_on, from_box, has_on_sheet, sheet_number}
@@ -199,10 +199,10 @@ module _ (r : Raster) (connect : Connect) (choice : Choice) (sheet : Sheet) (l :
 
   -- what number a pixel of the sheet has
   number_there : (x : ℕ) → x < length s.values → slice_index numbers x ≡ unwrap_or (position_from (λ n. is_in_node s connect n x) 1 nodes) 0
-  unfolding segmentation_of pixels node_number_at
+  unfolding segmentation_of pixels listed_number_at
   number_there x few =
       ap (λ (xs : List ℕ). slice_index xs x) (shows.exact s connect tree_is)
-      ∙ get_or-map-range_with_len (node_number_at s connect nodes) 0 (length s.values) x x 0 few (omega arith)
+      ∙ get_or-map-range_with_len (listed_number_at s connect nodes) 0 (length s.values) x x 0 few (omega arith)
 
   within : (i q : ℕ) (c : Place) → slice_get sheet.places.items i ≡ Some c → q < window_size (windows_of c).to
       → in_whole s.shape.width (windows_of c).to q < length s.values
