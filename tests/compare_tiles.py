@@ -53,7 +53,7 @@ def pixels(rng, shape):
         blocks = rng.integers(0, 8, (shape[0] // high + 1, shape[1] // wide + 1))
         return numpy.kron(blocks, numpy.ones((high, wide), dtype=int))[: shape[0], : shape[1]]
     hills = ndimage.gaussian_filter(rng.normal(0, 1, shape), rng.uniform(0.5, 4))
-    hills = numpy.rint(hills / max(hills.std(), 1e-9) * rng.choice([3, 30, 1000])).astype(int)
+    hills = numpy.rint(hills / max(hills.std(), 1e-3) * rng.choice([3, 30, 1000])).astype(int)
     return hills if kind == 2 else hills + numpy.indices(shape).sum(axis=0) // int(rng.integers(1, 9))
 
 
