@@ -204,8 +204,8 @@ def _holds(box: Box, boxes: numpy.ndarray) -> numpy.ndarray:
 
 
 def _blocks(table: Rows, reach: numpy.ndarray, shape: Tuple[int, int]) -> Iterator[Tuple[Box, numpy.ndarray]]:
-    """The windows of the blocks that have sources, each with the places of their rows. Below and on the right they reach
-    as far as one of these does; where they begin is the same for all sources, since a place's last digit hangs on it.
+    """The windows of the blocks that have sources, each with the places of their rows. Below and on the right one
+    reaches as far as these do; where it begins is the block's, since a place's last digit hangs on it.
     """
     at = [
         numpy.clip((numpy.asarray(table[name]) - 1000) // (1000 * BLOCK), 0, (side - 1) // BLOCK)
