@@ -34,8 +34,8 @@ from ._windows import Box, moved
 if TYPE_CHECKING:
     from ._detection import Detector
 
-# The side of a block, and how far its window reaches beyond it, in pixels.
-BLOCK, REACH = 1024, 128
+# The side of a block, and how far its window reaches beyond it at least and at most, in pixels.
+BLOCK, LEAST_REACH, REACH = 1024, 48, 128
 
 Executor = Optional[concurrent.futures.Executor]
 
@@ -203,8 +203,10 @@ def _holds(box: Box, boxes: numpy.ndarray) -> numpy.ndarray:
     return (box.top <= top) & (bottom <= box.bottom) & (box.left <= left) & (right <= box.right)
 
 
-def _blocks(table: Rows, shape: Tuple[int, int]) -> Iterator[Tuple[Box, numpy.ndarray]]:
-    """The windows of the blocks that have sources, each with the places of their rows."""
+def _blocks(table: Rows, reach: numpy.ndarray, shape: Tuple[int, int]) -> Iterator[Tuple[Box, numpy.ndarray]]:
+    """The windows of the blocks that have sources, each with the places of their rows. Below and on the right one
+    reaches as far as these do; where it begins is the block's, since a place's last digit hangs on it.
+    """
     at = [
         numpy.clip((numpy.asarray(table[name]) - 1000) // (1000 * BLOCK), 0, (side - 1) // BLOCK)
         for name, side in zip(("YCEN", "XCEN"), shape)
@@ -213,11 +215,9 @@ def _blocks(table: Rows, shape: Tuple[int, int]) -> Iterator[Tuple[Box, numpy.nd
     order = numpy.argsort(numbers, kind="stable")
     for places in numpy.split(order, numpy.flatnonzero(numpy.diff(numbers[order])) + 1):
         top, left = (int(it[places[0]]) * BLOCK for it in at)
+        behind = BLOCK + int(numpy.clip(math.ceil(reach[places].max()), LEAST_REACH, REACH))
         yield Box(
-            max(0, top - REACH),
-            min(shape[0], top + BLOCK + REACH),
-            max(0, left - REACH),
-            min(shape[1], left + BLOCK + REACH),
+            max(0, top - REACH), min(shape[0], top + behind), max(0, left - REACH), min(shape[1], left + behind)
         ), places
 
 
@@ -239,7 +239,7 @@ def measured(
         return work((Box(0, 1, 0, 1), table, numpy.zeros((1, 1), dtype="i4")))
     least = max(*detector.settings.apertures, detector.settings.vignet) / 2
     reach, answers, where = photometry.reach(table, points, least), [], []
-    waiting = _blocks(table, shape)
+    waiting = _blocks(table, reach, shape)
     while True:
         windows = []
         ahead, behind = itertools.tee(waiting)

@@ -78,7 +78,9 @@ def _of_centres(scene: Scene, seen: Seen, pixels, catalogue: Rows) -> Dict[str, 
         noise = scene.noise if numpy.ndim(scene.noise) == 0 else numpy.asarray(scene.noise).ravel()[pixels.places]
         light = numpy.maximum(scene.residual.ravel()[pixels.places], 0).astype("f8")
         with numpy.errstate(divide="ignore", invalid="ignore"):
-            variance += numpy.nan_to_num(light / scene.gain / noise**2, posinf=0)
+            more = light / scene.gain / noise**2
+        # numpy takes much longer to look for each kind of number than for all.
+        variance += more if numpy.isfinite(more).all() else numpy.nan_to_num(more, posinf=0)
     area = numpy.asarray(catalogue["AREA"], dtype="f8")
     factor = _narrower(area, seen.smooth) / (numpy.asarray(catalogue["FLUX"], dtype="f8") * seen.scale) ** 2
     sums = [pixels.summed(variance * it)[numbers] * factor for it in (right**2, down**2, right * down)]

@@ -239,16 +239,17 @@ def box_sums(image: numpy.ndarray) -> numpy.ndarray:
 
 def grown(mask: numpy.ndarray, reach: int) -> numpy.ndarray:
     """The mask with all pixels up to so many columns and rows away."""
-    mask, done = mask.copy(), 0
-    while done < reach:
-        # So far that no gap is left, also at an edge, behind which half of what has grown is cut off.
-        step = min(reach - done, done + 1)
-        for axis in (0, 1):
-            later, earlier = _shifted(mask.copy(), step, axis)
-            to_earlier, to_later = _shifted(mask, step, axis)[::-1]
-            to_earlier |= later
-            to_later |= earlier
-        done += step
+    for axis in (0, 1):
+        sides = [side + 2 * reach * (axis == along) for along, side in enumerate(mask.shape)]
+        wide, length = numpy.zeros(sides, dtype=bool), 1
+        inner = slice(reach, reach + mask.shape[axis])
+        wide[(inner, slice(None)) if axis == 0 else (slice(None), inner)] = mask
+        # Whether one of so many pixels is in it, from one of them to all from `reach` before to `reach` behind.
+        while length <= 2 * reach:
+            step = min(length, 2 * reach + 1 - length)
+            later, earlier = _shifted(wide, step, axis)
+            wide, length = later | earlier, length + step
+        mask = wide
     return mask
 
 

@@ -26,31 +26,31 @@ Noise = Union[float, numpy.ndarray]
 
 def _weighted(places: numpy.ndarray, sigma: numpy.ndarray, power: int, order: int) -> numpy.ndarray:
     """A Gaussian's weights at places from its centre, to this power, times the places to the powers from 0 to `order`:
-    a line for a source, each with a row for a place.
+    for rows and for columns a line for a source, each with a row for a place.
     """
     weights = places / sigma[:, None]
     weights *= weights
     weights *= -0.5 * power
-    numpy.exp(weights, out=weights)
     made = numpy.empty((*places.shape, order + 1))
-    made[:, :, 0] = weights
+    made[..., 0] = numpy.exp(weights, out=weights)
     for step in range(order):
-        numpy.multiply(made[:, :, step], places, out=made[:, :, step + 1])
+        numpy.multiply(made[..., step], places, out=made[..., step + 1])
     return made
 
 
 class _Windows(NamedTuple):
-    """Gaussian windows with their centres: the places of their pixels from these, and their standard deviations."""
+    """Gaussian windows with their centres: the places of their rows and columns from these, and their standard
+    deviations.
+    """
 
-    down: numpy.ndarray
-    right: numpy.ndarray
+    places: numpy.ndarray
     sigma: numpy.ndarray
 
     def moments(self, values: numpy.ndarray, order: int, power: int = 1) -> numpy.ndarray:
         """The sums over windows of values times the weights to a power, times the places down and to the right to the
         powers that the second and the third index say.
         """
-        rows, columns = (_weighted(it, self.sigma, power, order) for it in (self.down, self.right))
+        rows, columns = _weighted(self.places, self.sigma, power, order)
         return rows.swapaxes(1, 2) @ (values @ columns)
 
 
@@ -62,28 +62,32 @@ def _mirrored(found: stamps.Stamps) -> numpy.ndarray:
     return numpy.where(found.own, found.values, other).astype("f8")
 
 
-def _centred(found: stamps.Stamps, values, x, y, sigma) -> Tuple[numpy.ndarray, numpy.ndarray, numpy.ndarray]:
-    """The centres of the light under windows that stand around them, and where one is found."""
-    start, last, at = numpy.array([x, y]), numpy.full(len(x), numpy.inf), numpy.arange(len(x))
-    places, moving = start.copy(), numpy.ones(len(x), dtype=bool)
-    rows, columns, widths = found.rows, found.columns, sigma
+def _centred(pixels, values, start, sigma) -> Tuple[numpy.ndarray, numpy.ndarray]:
+    """The centres, rows and columns, of the light under windows that stand around them, and where one is found. Rows
+    and columns of the windows' pixels are given, and the centres to begin with.
+    """
+    places, last, at = start.copy(), numpy.full(len(sigma), numpy.inf), numpy.arange(len(sigma))
+    begun, now, widths, lengths, moving = start, start.copy(), sigma, last.copy(), numpy.ones(len(sigma), dtype=bool)
     for _ in range(STEPS):
-        x, y = places[:, at]
-        sums = _Windows(rows - y[:, None], columns - x[:, None], widths).moments(values, 1)
-        with numpy.errstate(invalid="ignore", divide="ignore"):
-            step = 2 * numpy.array([sums[:, 0, 1], sums[:, 1, 0]]) / sums[:, 0, 0]
+        sums = _Windows(pixels - now[:, :, None], widths).moments(values, 1)
+        light = sums[:, 0, 0]
+        step = 2 * numpy.array([sums[:, 1, 0], sums[:, 0, 1]]) / light
         length = numpy.hypot(*step)
-        moving &= (sums[:, 0, 0] > 0) & (numpy.hypot(x - start[0, at], y - start[1, at]) < widths)
-        places[:, at[moving]] += step[:, moving]
-        last[at[moving]] = length[moving]
+        moving &= (light > 0) & (numpy.hypot(*(now - begun)) < widths)
+        numpy.add(now, step, out=now, where=moving)
+        numpy.copyto(lengths, length, where=moving)
         moving &= length > STILL
         left = numpy.count_nonzero(moving)
-        if not left:
-            break
         if left <= LEFT * len(at):
-            at, values, rows, columns, widths = (it[moving] for it in (at, values, rows, columns, widths))
+            places[:, at], last[at] = now, lengths
+            if not left:
+                break
+            at, values, widths, lengths = (it[moving] for it in (at, values, widths, lengths))
+            pixels, begun, now = (it[:, moving] for it in (pixels, begun, now))
             moving = numpy.ones(left, dtype=bool)
-    return places[0], places[1], (last <= STILL) & (numpy.hypot(*(places - start)) < sigma)
+    else:
+        places[:, at], last[at] = now, lengths
+    return places, (last <= STILL) & (numpy.hypot(*(places - start)) < sigma)
 
 
 def ellipse(xx: numpy.ndarray, yy: numpy.ndarray, xy: numpy.ndarray) -> Tuple[numpy.ndarray, ...]:
@@ -151,12 +155,13 @@ def of(
     sigmas = _width(half)
     for found in stamps.batches(residual, undefined, segments, numbers, (y, x), reach(half)):
         values, at, sigma = _mirrored(found), found.places, sigmas[found.places]
-        right, down, known = _centred(found, values, x[at], y[at], sigma)
-        windows = _Windows(found.rows - down[:, None], found.columns - right[:, None], sigma)
-        sums, variance = windows.moments(values, 2), windows.moments(_variance(found, values, noise, gain), 2, 2)
+        pixels = numpy.array([found.rows, found.columns], dtype="f8")
         with numpy.errstate(invalid="ignore", divide="ignore"):
+            centre, known = _centred(pixels, values, numpy.array([y[at], x[at]]), sigma)
+            windows = _Windows(pixels - centre[:, :, None], sigma)
+            sums, variance = windows.moments(values, 2), windows.moments(_variance(found, values, noise, gain), 2, 2)
             errors = ellipse(*_errors(sums, variance, sigma))
             signal = sums[:, 0, 0] / numpy.sqrt(variance[:, 0, 0])
-        for name, column in zip(NAMES, (right, down, *errors, signal)):
+        for name, column in zip(NAMES, (*centre[::-1], *errors, signal)):
             made[name][at] = column if name == "SNR_WIN" else numpy.where(known, column, numpy.nan)
     return made

@@ -207,7 +207,8 @@ def _defined(image: numpy.ndarray, mask: Optional[numpy.ndarray], noise: Numbers
 def _pixels_of(segments: numpy.ndarray, numbers: numpy.ndarray) -> _Pixels:
     """The pixels of a map that belong to sources, among them those with these numbers."""
     places = numpy.flatnonzero(segments.ravel() > 0)
-    within = segments.ravel()[places]
+    # numpy takes such numbers as places without a copy.
+    within = segments.ravel()[places].astype(numpy.intp)
     length = int(max(within.max(initial=0), numbers.max(initial=0))) + 1
     return _Pixels(places, within, length, segments.shape[1])
 
@@ -277,8 +278,11 @@ def _gathered(pixels: _Pixels, residual: numpy.ndarray, catalogue: Rows) -> nump
     along = (right * cosine + down * sine) / here(long)
     across = (down * cosine - right * sine) / here(short)
     light = numpy.maximum(residual.ravel()[pixels.places], 0).astype("f8")
+    along *= along
+    across *= across
+    along += across
     with numpy.errstate(invalid="ignore"):
-        mean = (pixels.summed(light * (along**2 + across**2)) / pixels.summed(light))[numbers]
+        mean = (pixels.summed(light * along) / pixels.summed(light))[numbers]
     # A pixel is a square of side 1, whose own variance is a twelfth. Of a full ellipse this is a half.
     mean += (1 / long**2 + 1 / short**2) / 12
     return numpy.sqrt(numpy.where(numpy.isfinite(mean), numpy.minimum(2 * mean, 1), 1))
