@@ -1,17 +1,18 @@
 //! What the bytes of tiles give together.
-ghost use Rattle.std.specs.Prelude.{◌≡◌, ◌<◌, List, IfOk, IfErr, length};
+ghost use Rattle.std.specs.Prelude.{◌≡◌, ◌<◌, List, IfOk, IfErr, IfSome, IfNone, length};
 ghost use Rattle.std.specs.List.{All};
 ghost use Rattle.comp_tree.specs.Raster.{Raster, IsPlane};
 ghost use Rattle.tree_products.specs.Catalogues.{hdus, IsDetection, detected_hdus};
 ghost use Rattle.tile_laws.specs.Pieces.{DetectionChoice, searched};
 ghost use Rattle.tile_join.specs.declared.tiles.TileCatalogue.{TileCatalogue as Tile};
 ghost use Rattle.tile_join.specs.Made.{AreTilesMade};
-ghost use Rattle.tile_file.specs.TileFiles.{IsTileFile};
+ghost use Rattle.tile_file.specs.TileFiles.{bytes_of_tiles, IsTileFile};
 ghost use Rattle.join_top.specs.Joinings.{AreTilesIn, IsJoinedOutput};
 ghost use Rattle.join_top.specs.Making.{IsWholeOf, IsJoinedDetection, IsStopOfTiles, IsMakeStopOf};
 
 use crate::ends::JoinRefusal;
 use comp_tree::Shape;
+use costs::OutOfMemory;
 use std::alloc::Global;
 use tile_file::laws::tiles_are_told_apart;
 use tile_file::{row_cells, split_tiles};
@@ -26,16 +27,16 @@ pub(crate) enum MakeStop {
 }
 
 // The map and the catalogue of the image whose tiles' files these bytes are.
-pub(crate) fn make_joined(alloc: Global, bytes: &[u8]) -> Result<Detection, MakeStop>
-    ensures output { IfOk result (λ found. IsJoinedOutput bytes.now (hdus found.shape found.map.items found.cells.items)) }
+pub(crate) fn make_joined(alloc: Global, bytes: Vec<u8>) -> Result<Detection, MakeStop>
+    ensures output { IfOk result (λ found. IsJoinedOutput bytes.items (hdus found.shape found.map.items found.cells.items)) }
     ensures image { IfOk result (λ found. (d : DetectionChoice) (r : Raster) (tiles : List Tile) → IsPlane r
-        → AreTilesIn bytes.now r.shape tiles → AreTilesMade d r tiles
+        → AreTilesIn bytes.items r.shape tiles → AreTilesMade d r tiles
         → hdus found.shape found.map.items found.cells.items ≡ detected_hdus (searched d r) d.connect d.choice) }
     ensures writable { IfOk result (λ found. IsDetection found.shape found.map.items found.cells.items) }
-    ensures refused { IfErr result (IsMakeStopOf bytes.now) }
+    ensures refused { IfErr result (IsMakeStopOf bytes.items) }
 {
     tiles_are_told_apart();
-    let tiles = match split_tiles(alloc, bytes) {
+    let tiles = match tiles_of(alloc, bytes) {
         Ok(Some(tiles)) => tiles,
         Ok(None) => return Err(MakeStop::Refused(JoinRefusal::NotTiles)),
         Err(_) => return Err(MakeStop::NoMemory),
@@ -44,6 +45,16 @@ pub(crate) fn make_joined(alloc: Global, bytes: &[u8]) -> Result<Detection, Make
         return Err(MakeStop::Refused(JoinRefusal::NotTiles));
     }
     join_tiles(alloc, whole_of(&tiles), &tiles)
+}
+
+// The tiles whose files these bytes are. The bytes are gone when this returns, so that they take no memory beside the map of the whole.
+fn tiles_of(alloc: Global, bytes: Vec<u8>) -> Result<Option<Vec<TileCatalogue>>, OutOfMemory>
+    ensures bytes { IfOk result (λ found. IfSome found (λ tiles. bytes.items ≡ bytes_of_tiles tiles.items)) }
+    ensures fit { IfOk result (λ found. IfSome found (λ tiles. All IsTileFile tiles.items)) }
+    ensures none { IfOk result (λ found. IfNone found ((tiles : List Tile) → All IsTileFile tiles
+        → bytes.items ≡ bytes_of_tiles tiles → ⊥)) }
+{
+    split_tiles(alloc, &bytes)
 }
 
 // The shape of the image that the first tile says.

@@ -48,7 +48,7 @@ fn carry_out<S: Source, O: Sink>(alloc: Global, input: &mut S, output: &mut O) -
         Err(ReadStop::ReadFault) => return JoinEnd::ReadFault,
         Err(ReadStop::NoMemory) => return JoinEnd::NoMemory,
     };
-    let found = match make_joined(alloc, &bytes) {
+    let found = match make_joined(alloc, bytes) {
         Ok(found) => found,
         Err(MakeStop::Refused(refusal)) => return JoinEnd::Refused(refusal),
         Err(MakeStop::NoMemory) => return JoinEnd::NoMemory,
@@ -62,8 +62,8 @@ fn carry_out<S: Source, O: Sink>(alloc: Global, input: &mut S, output: &mut O) -
 /// Joins the tiles whose files stand on the input, one behind the other in any order: all of a run of `join` but its line on the notes. Where they
 /// are what detection makes of windows of one image, the output is what `detect` writes of the whole image.
 ///
-/// All of the input is read before tiles are looked at, and all memory is taken before the first byte of output, which comes in pieces of at most
-/// 2,880 bytes.
+/// All of the input is read before tiles are looked at, and let go before they are joined. All memory is taken before the first byte of output, which
+/// comes in pieces of at most 2,880 bytes.
 pub fn end_of_join<S: Source, O: Sink>(
     alloc: Global,
     words: &[&str],
