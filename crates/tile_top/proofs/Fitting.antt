@@ -45,7 +45,7 @@ same_hdus : (a a' : Shape) (b b' c c' : Frame) (d d' : List Extent) (e e' : List
 same_hdus a a' b b' c c' d d' e e' f f' p q r s u v = cc
 
 -- its bytes are those of the answer
-pub tile_written : (t : TileOrder) (window : Raster) (tile : TileCatalogue) → IsTileOfWindow t.order t.choice t.place window tile
+pub tile_written : (t : TileOrder) (window : Raster) (tile : TileCatalogue) → IsTileOfWindow t.order t.empty t.choice t.place window tile
     → tile_bytes tile ≡ tile_output t window
 unfolding tile_output
 tile_written t window tile told = same_hdus _ _ _ _ _ _ _ _ _ _ _ _ told.whole told.window told.core told.open told.rows told.map

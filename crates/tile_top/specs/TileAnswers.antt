@@ -2,7 +2,7 @@
 use Rattle.std.specs.Prelude.{ℕ, ◌==◌, ◌&&◌, Bool, true, List, [], Result, Ok, Err, if◌then◌else◌}
 use Rattle.comp_tree.specs.declared.shape.Shape.{Shape}
 use Rattle.comp_tree.specs.Raster.{Raster}
-use Rattle.mesh_background.specs.Residuals.{residual_of}
+use Rattle.mesh_background.specs.Residuals.{residual_with}
 use Rattle.source_pick.specs.Catalogue.{catalogue}
 use Rattle.source_pick.specs.Segmentation.{segmentation}
 use Rattle.orders.specs.declared.words.Usage.{Usage as AtFault}
@@ -21,8 +21,8 @@ use Rattle.tile_words.specs.TileWords.{tile_order_of}
 -- the bytes of the tile that an order makes of the image of its window: its rows and its map are those of the image's residual
 unfoldable pub tile_output : TileOrder → Raster → List ℕ
 tile_output t window =
-    let residual = residual_of window t.order.mesh t.order.flat in
-    tile_hdus t.place.whole (frame_at t.place.left t.place.top window.shape) t.place.core (open_of_tile t.order t.choice t.place window)
+    let residual = residual_with t.empty window t.order.mesh t.order.flat in
+    tile_hdus t.place.whole (frame_at t.place.left t.place.top window.shape) t.place.core (open_of_tile t.order t.empty t.choice t.place window)
     (own_of t.place window.shape (catalogue residual t.order.connect t.choice)) (segmentation residual t.order.connect t.choice)
 
 -- an image has the window's shape

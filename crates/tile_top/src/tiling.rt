@@ -52,6 +52,7 @@ fn make_file<R: Threads + Sync, G: Gate>(
         alloc,
         image,
         &order.order,
+        order.empty,
         &order.choice,
         &order.place,
         gate,
