@@ -4,7 +4,7 @@ use Rattle.std.specs.List.{flat_map}
 use Rattle.comp_tree.specs.declared.shape.Shape.{Shape}
 use Rattle.comp_tree.specs.Raster.{Raster}
 use Rattle.comp_tree.specs.Windows.{IsInside, seen_through}
-use Rattle.mesh_background.specs.Residuals.{residual_of}
+use Rattle.mesh_background.specs.Residuals.{residual_with}
 use Rattle.source_pick.specs.declared.catalogue.CatRow.{CatRow}
 use Rattle.source_pick.specs.Catalogue.{cells_of}
 use Rattle.tree_products.specs.Catalogues.{hdus, catalogue_cells, detected_hdus}
@@ -34,7 +34,7 @@ made_same d r t u whole window core boxes rows numbers made = record {
 pub written_of_image : (d : DetectionChoice) (r : Raster) (whole : Shape) (rows : List CatRow) (numbers : List ℕ) → whole ≡ r.shape
     → rows ≡ detected d r → numbers ≡ mapped d r
     → hdus whole numbers (flat_map cells_of rows) ≡ detected_hdus (searched d r) d.connect d.choice
-unfolding detected_hdus catalogue_cells residual_of
+unfolding detected_hdus catalogue_cells residual_with
 written_of_image d r whole rows numbers shape rows_are numbers_are =
     ap (λ s. hdus s numbers (flat_map cells_of rows)) shape ∙ ap (λ n. hdus r.shape n (flat_map cells_of rows)) numbers_are
     ∙ ap (λ l. hdus r.shape (mapped d r) (flat_map cells_of l)) rows_are

@@ -7,6 +7,8 @@ use Rattle.command_line.specs.Notes.{Noted}
 use Rattle.comp_tree.specs.Raster.{Raster, IsPlane}
 use Rattle.orders.specs.declared.words.Usage.{Usage as AtFault}
 use Rattle.run_relation.specs.Headline.{InputUse, OutputUse, Took, TookAtMost, IsUnused}
+use Rattle.mesh_background.specs.Laws.{IsOwnMedian}
+use Rattle.mesh_background.specs.Residuals.{residual_of}
 use Rattle.tree_products.specs.Catalogues.{detected_hdus}
 use Rattle.tile_laws.specs.Pieces.{DetectionChoice, searched}
 use Rattle.tile_join.specs.declared.tiles.TileCatalogue.{TileCatalogue}
@@ -16,8 +18,8 @@ use Rattle.join_top.specs.declared.ends.JoinEnd.TheVariants.{Done, Usage, Refuse
 use Rattle.join_top.specs.Joinings.{AreTilesIn, IsJoinedOutput, IsRefusalOf}
 use Rattle.join_top.specs.JoinNotes.{join_status, join_note}
 
--- the tiles' output was written and their bytes were taken; where they are what detection makes of windows of one image, it is what
--- `detect` writes of the whole image
+-- The tiles' output was written and their bytes were taken. Where they are what detection makes of windows of one image, it is what detection
+-- makes of the whole. And where no number was given for cells without a value, or the image's own median was, it is what `detect` writes of it
 pub record WritesJoined (bytes : List ℕ) (i : InputUse) (o : OutputUse) : Type 0 where
   pub output : List ℕ
   pub is_output : IsJoinedOutput bytes output
@@ -25,6 +27,8 @@ pub record WritesJoined (bytes : List ℕ) (i : InputUse) (o : OutputUse) : Type
   pub taken : Took i.left i.left' (length bytes)
   pub image : (d : DetectionChoice) (r : Raster) (tiles : List TileCatalogue) → IsPlane r → AreTilesIn bytes r.shape tiles → AreTilesMade d r tiles
       → output ≡ detected_hdus (searched d r) d.connect d.choice
+  pub whole : (d : DetectionChoice) (r : Raster) (tiles : List TileCatalogue) → IsPlane r → AreTilesIn bytes r.shape tiles → AreTilesMade d r tiles
+      → IsOwnMedian d.empty r → output ≡ detected_hdus (residual_of r d.mesh d.flat) d.connect d.choice
 
 -- a front of the tiles' output was written
 pub record CutsJoined (bytes : List ℕ) (i : InputUse) (o : OutputUse) : Type 0 where
