@@ -5,7 +5,7 @@ use Rattle.comp_tree.specs.declared.shape.Connect.{Connect}
 use Rattle.comp_tree.specs.Raster.{Raster, IsPlane}
 use Rattle.comp_tree.specs.ComponentTree.{ComponentTree}
 use Rattle.comp_tree.specs.Components.{tree_of}
-use Rattle.mesh_background.specs.Residuals.{residual_of}
+use Rattle.mesh_background.specs.Residuals.{residual_of, residual_with}
 use Rattle.fits_write.specs.Columns.{IsTable}
 use Rattle.source_pick.specs.declared.choice.Choice.{Choice}
 use Rattle.source_pick.specs.Sources.{sources}
@@ -66,7 +66,7 @@ cut_tree_shape plane left values connect h tree is tree_is same = sym same ∙ s
 pub residuals_alike : (image other plane values : Raster) (mesh : ℕ) (flat : Bool) → plane ≡ residual_of image mesh flat → values ≡ residual_of other mesh flat
     → image.shape ≡ other.shape
     → plane.shape ≡ values.shape
-unfolding residual_of
+unfolding residual_with
 residuals_alike image other plane values mesh flat first second same = ap (λ (r : Raster). r.shape) first ∙ same ∙ sym (ap (λ (r : Raster). r.shape) second)
 
 pub made_of_images : {E : Type 0} (order : Order) (choice : Choice) (image other plane values : Raster) (made : Result Measured E)
