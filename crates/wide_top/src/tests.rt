@@ -1,4 +1,4 @@
-//! An image of one row, 5 0 5, in two tiles and as a whole.
+//! An image of one row, 5 0 5, in two tiles and as a whole, and one that has pixels without a value.
 use crate::run_wide;
 use dev_io::{BLOCK, MemSink, MemSource};
 use pixel_plane::Limits;
@@ -26,14 +26,15 @@ fn fill(bytes: &mut Vec<u8>, size: usize) -> Result<(), Fail> {
     Ok(())
 }
 
-// A file with one row of pixels, as many as this card says.
+// A file with one row of pixels, as many as this card says; 255 stands for one without a value.
 fn file(alloc: Global, width: &[u8], pixels: &[u8]) -> Result<Vec<u8>, Fail> {
-    let cards: [&[u8]; 6] = [
+    let cards: [&[u8]; 7] = [
         b"SIMPLE  = T",
         b"BITPIX  = 8",
         b"NAXIS   = 2",
         width,
         b"NAXIS2  = 1",
+        b"BLANK   = 255",
         b"END",
     ];
     let mut bytes = Vec::new(alloc);
@@ -129,6 +130,79 @@ fn tiles_that_are_joined_are_the_whole(rt: HostRuntime) -> Result<(), Fail> {
     assert_eq!(rt; joined.status, 0);
     let whole = file(alloc, b"NAXIS1  = 3", &[5, 0, 5])?;
     let detected = run(&rt, alloc, &["detect", "--threshold", "3"], &whole)?;
+    assert_eq!(rt; detected.status, 0);
+    assert!(rt; joined.output.as_slice() == detected.output.as_slice());
+    Ok(())
+}
+
+// The tile of the first three of ten pixels, from the window of the first six, whose own median is 7. The image's is 0.
+fn front_tile<R: Threads + Sync>(rt: &R, alloc: Global) -> Result<Outcome, Fail> {
+    let words = [
+        "tile",
+        "--whole",
+        "10",
+        "1",
+        "--window",
+        "0",
+        "0",
+        "6",
+        "1",
+        "--core",
+        "0",
+        "0",
+        "3",
+        "1",
+        "--empty-cells",
+        "0",
+        "detect",
+        "--threshold",
+        "3",
+        "--mesh",
+        "1",
+    ];
+    let window = file(alloc, b"NAXIS1  = 6", &[9, 0, 7, 255, 255, 8])?;
+    run(rt, alloc, &words, &window)
+}
+
+// The tile of the others, from the window of the last eight.
+fn back_tile<R: Threads + Sync>(rt: &R, alloc: Global) -> Result<Outcome, Fail> {
+    let words = [
+        "tile",
+        "--whole",
+        "10",
+        "1",
+        "--window",
+        "2",
+        "0",
+        "8",
+        "1",
+        "--core",
+        "3",
+        "0",
+        "7",
+        "1",
+        "--empty-cells",
+        "0",
+        "detect",
+        "--threshold",
+        "3",
+        "--mesh",
+        "1",
+    ];
+    let window = file(alloc, b"NAXIS1  = 8", &[7, 255, 255, 8, 0, 0, 0, 0])?;
+    run(rt, alloc, &words, &window)
+}
+
+#[test]
+fn tiles_with_empty_cells_are_joined_by_their_number(rt: HostRuntime) -> Result<(), Fail> {
+    let alloc = rt.alloc();
+    let mut tiles = front_tile(&rt, alloc)?.output;
+    tiles.extend_from_slice(&back_tile(&rt, alloc)?.output)?;
+    let joined = run(&rt, alloc, &["join"], &tiles)?;
+    assert_eq!(rt; joined.status, 0);
+    let whole = file(alloc, b"NAXIS1  = 10", &[9, 0, 7, 255, 255, 8, 0, 0, 0, 0])?;
+    let words = ["detect", "--threshold", "3", "--mesh", "1"];
+    let detected = run(&rt, alloc, &words, &whole)?;
     assert_eq!(rt; detected.status, 0);
     assert!(rt; joined.output.as_slice() == detected.output.as_slice());
     Ok(())
