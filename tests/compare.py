@@ -310,9 +310,9 @@ def random_tiles(rng, width, height, mesh):
 
 
 def tile_runs(rng, program, folder):
-    """Runs of maxwide over the tiles of an image, one that joins them, and the whole where this gives an answer. Half of
-    them give the image's median for the mesh's cells without a value, and now and then another number, which the whole
-    isn't compared with.
+    """Runs of maxwide over the tiles of an image, one that joins them, and the whole where this gives an answer. Half
+    give the image's median for the mesh's cells without a value, some another number, which the whole isn't compared
+    with.
     """
     width, height, mesh = rng.randint(1, 12), rng.randint(1, 9), rng.choice([0, 0, 0, 1, 2, 3])
     few = rng.choice([2, 3, 6, 40])
