@@ -28,7 +28,7 @@ returns-in-Ok-write_joined-clause-told g c = λ bytes told.
       written = c.in-Ok-write_joined.ensures.bytes;
       taken = all_taken bytes _ _ c.in-Ok.bytes.items told read;
       image = image;
-      whole = whole_of_image bytes _ image;
+      whole = whole_of_image bytes (hdus found.shape found.map.items found.cells.items) image;
     }
 
 pub returns-clause-told : goal.returns-clause-told
