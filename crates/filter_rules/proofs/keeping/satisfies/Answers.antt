@@ -16,4 +16,4 @@ pub returns : goal.returns
 returns c = λ plane connect e f.
     let fits : SFits w64 c.flux_by_outlines.result = search rules in
     admitted plane connect c.args.tree.now c.args.outlines.now c.args.criterion.now c.args.n _ _ c.admits.result e f c.requires.node
-    (to_z-of_z w64 c.flux_by_outlines.result fits ∙ c.flux_by_outlines.ensures plane connect e f) c.admits.ensures
+    (to_z-of_z w64 c.flux_by_outlines.result fits ∙ c.flux_by_outlines.ensures.exact plane connect e f) c.admits.ensures
