@@ -99,9 +99,7 @@ fn tile_by<R: Threads + Sync>(
     let Ok(order) = read_order(words) else {
         return Err(Fail::from("an order"));
     };
-    Ok(make_tile(
-        rt, alloc, image, &order, empty, &CHOICE, &place, &OpenGate,
-    ))
+    Ok(make_tile(rt, alloc, image, &order, empty, &CHOICE, &place, &OpenGate))
 }
 
 // Of the image 0 5 0 0 5 5 0 5, the columns from 2 on.
