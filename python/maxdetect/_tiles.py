@@ -212,7 +212,7 @@ def detect_tiles(
         files, left = _tiles(image, side, mesh, work, executor, progress)
     if left:
         files = []
-        output = kernel.run(words, wholenumbers.fits_of(image, blank), program, "maxwide")
+        output = kernel.run(words, wholenumbers.fits_of(image, blank, pixels=image.size), program, "maxwide")
         progress(left)
     else:
         output = kernel.run(["join"], _handed_on(files), program, "maxwide")

@@ -63,14 +63,16 @@ def parts(image: numpy.ndarray, blank: Optional[int]) -> Iterator[Tuple[numpy.nd
         yield numpy.ma.getdata(rows), undefined_of(rows, blank)
 
 
-def value_range(image: numpy.ndarray, blank: Optional[int], pixels: Optional[int] = None) -> Tuple[int, int]:
-    """The least and the greatest defined value of an image, or of a window of one with so many pixels; or 0 and 0."""
+def value_range(image: numpy.ndarray, blank: Optional[int], pixels: int = 0) -> Tuple[int, int]:
+    """The least and the greatest defined value of an image, or 0 and 0. For maxwide `pixels` says how many it has, or
+    the one of which it is a window.
+    """
     ends = []
     for values, undefined in parts(image, blank):
         defined = values if undefined is None else values[~undefined]
         ends += [int(defined.min()), int(defined.max())] if defined.size else []
     low, high = min(ends, default=0), max(ends, default=0)
-    most = MOST_VALUE if (pixels or image.size) <= MOST_PIXELS else WIDE_VALUE
+    most = WIDE_VALUE if pixels > MOST_PIXELS else MOST_VALUE
     if low < -most or high > most:
         raise ValueError(f"the values from {low} to {high} lie too far from 0")
     return low, high
@@ -86,10 +88,8 @@ def _forms(low):
     yield 64, -(2**63), 0
 
 
-def fits_of(
-    image: numpy.ndarray, blank: Optional[int], extension: bool = False, pixels: Optional[int] = None
-) -> Pieces:
-    """An image, or a window of one with so many pixels, as pieces of a FITS file, or of an extension behind one.
+def fits_of(image: numpy.ndarray, blank: Optional[int], extension: bool = False, pixels: int = 0) -> Pieces:
+    """An image as pieces of a FITS file, or of an extension behind one; `pixels` as in `value_range`.
 
     The stored numbers are the values less BZERO, in as few bytes as their range needs; the least stored number is
     BLANK. In 64 bits BZERO is 0. Of an image that no program takes there is the header alone.
