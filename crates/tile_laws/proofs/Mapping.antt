@@ -21,7 +21,7 @@ use Rattle.source_pick.specs.declared.catalogue.CatRow.{CatRow}
 use Rattle.source_pick.specs.Sources.{is_source, sources}
 use Rattle.source_pick.specs.Catalogue.{measured_row, catalogue_row}
 use Rattle.source_pick.specs.Laws.{SourcesAreDisjoint}
-use Rattle.node_sums.specs.DisjointNodes.{node_number_at}
+use Rattle.node_sums.specs.DisjointNodes.{listed_number_at}
 use Rattle.source_pick.specs.Segmentation.{segmentation_of, segmentation}
 use Rattle.source_pick.specs.Catalogue.{moved_row}
 use Rattle.source_pick.specs.Windows.{IsTileOf}

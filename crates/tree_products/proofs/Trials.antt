@@ -2,6 +2,7 @@
 use Rattle.std.proofs.Common.{◌≡◌, ℕ, ◌+◌, ◌*◌, ◌/◌, ◌^◌, ◌<◌, ◌≤◌, zero, suc, List, [], ◌∷◌, length, map}
 use Rattle.std.proofs.Common.{refl, sym, ap, subst, get_or, ◌∙◌, arith}
 use Rattle.std.specs.Prelude.{ℤ, pos, nat_le, Bool, true, false, cond, ◌-ℤ◌, ◌*ℤ◌, ◌≤ℤ◌, sum_by, slice_get, Option, Some, None, unwrap_or}
+use Rattle.std.specs.List.{fold}
 use Rattle.std.proofs.lemmas.Int.{ints}
 use Rattle.std.proofs.lemmas.Nat.{mod_below}
 use Rattle.std.proofs.lemmas.List.{length-map, get_or-map}
@@ -185,8 +186,8 @@ small_fluxes r tree outlines plane small of = record {
 }
 
 pub areas_of_outlines : (r : Raster) (connect : Connect) → sum_by (λ (o : Outline). o.area) (outlines_in r connect) ≡ sum_by (λ (s : Sums). s.area) (sums_in r connect)
-areas_of_outlines r connect = same (sums_in r connect)
+areas_of_outlines r connect = same 0 (sums_in r connect)
   where
-    same : (xs : List Sums) → sum_by (λ (o : Outline). o.area) (map outline_of xs) ≡ sum_by (λ (s : Sums). s.area) xs
-    same [] = refl
-    same (x ∷ xs) = ap (λ (n : ℕ). x.area + n) (same xs)
+    same : (n : ℕ) (xs : List Sums) → fold (λ (a : ℕ) (o : Outline). a + o.area) n (map outline_of xs) ≡ fold (λ (a : ℕ) (s : Sums). a + s.area) n xs
+    same n [] = refl
+    same n (x ∷ xs) = same (n + x.area) xs

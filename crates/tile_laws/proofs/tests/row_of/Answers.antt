@@ -6,4 +6,10 @@ use Rattle.node_sums.proofs.Exported.{sums_of_one}
 use Rattle.tile_laws.proofs.tests.row_of.Goals as goal
 
 pub row-requires-clause-sums : goal.row-requires-clause-sums
-row-requires-clause-sums c = ?
+row-requires-clause-sums c =
+    let picked = c.in_ok-picked.picked in
+    let some : c.args.number - 1 < length picked.nodes.items = search rules in
+    subst (λ (s : Sums). AreSumsOfNode c.in_ok-tree.tree c.index-n.result.now s) (sym c.index.ensures)
+    (subst (λ (n : ℕ). AreSumsOfNode c.in_ok-tree.tree n _)
+    (sym (get_or_default_zero picked.nodes.items (c.args.number - 1) c.index-n.result.now some) ∙ sym c.index-n.ensures)
+    (sums_of_one c.in_ok-tree.tree picked.nodes.items picked.sums.items (c.args.number - 1) c.index.result.now c.in_ok-picked.ensures.sums some))

@@ -35,8 +35,8 @@ pick_by_outlines-requires-clause-of_plane g c = λ connect is. c.deref.ensures.v
 pub overflow_cast-result : goal.overflow_cast-result
 overflow_cast-result g c =
     let d = c.in_ok-sources.ensures.disjoint in
-    let few : length c.in_ok-sources.sources.items ≤ length c.args.tree.now.rows = few_marked c.args.tree.now c.in_ok-sources.sources.items d in
-    let rows : length c.args.tree.now.rows ≤ 2147483647 = few_rows c.args.tree.now c.in_ok-sources.sources.items d in
+    let few : length c.in_ok-sources.field-0.nodes.items ≤ length c.args.tree.now.rows = few_marked c.args.tree.now c.in_ok-sources.field-0.nodes.items d in
+    let rows : length c.args.tree.now.rows ≤ 2147483647 = few_rows c.args.tree.now c.in_ok-sources.field-0.nodes.items d in
     record { fits = omega (arith, few, rows, c.len.ensures, c.deref-2.ensures.len, ap length c.deref-2.ensures.value) }
 
 pub count_mapped-requires : goal.count_mapped-requires
