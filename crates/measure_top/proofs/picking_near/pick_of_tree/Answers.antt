@@ -14,9 +14,6 @@ returns-clause-exact g c = λ connect is.
     c.deref-3.ensures.value (c.in_ok-nodes.ensures.exact c.args.plane.now connect is
     (c.deref-2.ensures.value ∙ known.sums_are ∙ ap (map (sums_of c.args.plane.now connect)) (sym c.deref-3.ensures.value)))
 
-pub segment_in_parts-requires : goal.segment_in_parts-requires
-segment_in_parts-requires g c = subst (AreDisjointNodes c.args.tree.now) (sym c.deref.ensures.value) c.in_ok-picked.ensures.disjoint
-
 pub picked_nodes-requires-clause-disjoint : goal.picked_nodes-requires-clause-disjoint
 picked_nodes-requires-clause-disjoint g c = subst (AreDisjointNodes c.args.tree.now) (sym c.deref-3.ensures.value) c.in_ok-picked.ensures.disjoint
 
