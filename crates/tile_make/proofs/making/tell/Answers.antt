@@ -54,9 +54,6 @@ own_rows-requires-clause-sums g c =
 pub own_rows-requires-clause-disjoint : goal.own_rows-requires-clause-disjoint
 own_rows-requires-clause-disjoint g c = subst (AreDisjointNodes c.in_ok-tree.tree) (sym c.deref-4.ensures.value) c.in_ok-picked.ensures.disjoint
 
-pub segment_in_parts-requires : goal.segment_in_parts-requires
-segment_in_parts-requires g c = subst (AreDisjointNodes c.in_ok-tree.tree) (sym c.deref-5.ensures.value) c.in_ok-picked.ensures.disjoint
-
 pub returns-clause-told : goal.returns-clause-told
 unfolding catalogue segmentation
 returns-clause-told g c =
