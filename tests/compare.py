@@ -311,8 +311,8 @@ def random_tiles(rng, width, height, mesh):
 
 def tile_runs(rng, program, folder):
     """Runs of maxwide over the tiles of an image, one that joins them, and the whole where this gives an answer. Half
-    give the image's median for the mesh's cells without a value, some another number, which the whole isn't compared
-    with.
+    give the image's median for the mesh's cells without a value, some another number. The whole isn't compared with
+    tiles of another number, of damaged words, or damaged on their way.
     """
     width, height, mesh = rng.randint(1, 12), rng.randint(1, 9), rng.choice([0, 0, 0, 1, 2, 3])
     few = rng.choice([2, 3, 6, 40])
@@ -324,21 +324,22 @@ def tile_runs(rng, program, folder):
     options = dict(option_words(rng, "detect"), **{"--hdu": "0", "--mesh": str(mesh)})
     options["--threshold"] = str(rng.randint(1, few))
     detect = ["detect", *(word for pair in options.items() for word in pair)]
-    files = []
+    files, whole = [], number in (None, median)
     for window, core in random_tiles(rng, width, height, mesh):
         left, top, columns, rows = window
         places = ["--whole", width, height, "--window", *window, "--core", *core]
-        words = ["tile", *map(str, places), *empty, *detect]
-        words = damaged_words(rng, words) if rng.random() < 0.05 else words
+        right = ["tile", *map(str, places), *empty, *detect]
+        words = damaged_words(rng, right) if rng.random() < 0.05 else right
+        whole = whole and words == right
         seen = [values[y * width + x] for y in range(top, top + rows) for x in range(left, left + columns)]
         data = plain_image(columns, seen)
         files.append(run(program, words, data, folder))
         yield words, data, model.wide_answer(words, data), files[-1]
-    data = b"".join(found.output for found in files)
-    data = damaged(rng, data) if data and rng.random() < 0.15 else data
+    made = b"".join(found.output for found in files)
+    data = damaged(rng, made) if made and rng.random() < 0.15 else made
     joined = run(program, ["join"], data, folder)
     yield ["join"], data, model.wide_answer(["join"], data), joined
-    if joined.status == 0 and number in (None, median):
+    if joined.status == 0 and whole and data == made:
         data = plain_image(width, values)
         found = run(program, detect, data, folder)
         yield detect, data, model.Answer(0, joined.output, "", found.taken), found
