@@ -19,14 +19,14 @@ row-requires-clause-sums c =
     let picked = c.in_ok-picked.picked in
     let some : 0 < length picked.nodes.items = search rules in
     renamed c.in_ok-tree.tree
-        (sums_of_one c.in_ok-tree.tree picked.nodes.items picked.sums.items 0 c.index.result.now c.in_ok-picked.ensures.sums some)
-        (sym (get_or_default_zero picked.nodes.items 0 c.index-2.result.now some) ∙ sym c.index-2.ensures)
-        (sym c.index.ensures)
+    (sums_of_one c.in_ok-tree.tree picked.nodes.items picked.sums.items 0 c.index.result.now c.in_ok-picked.ensures.sums some)
+    (sym (get_or_default_zero picked.nodes.items 0 c.index-2.result.now some) ∙ sym c.index-2.ensures)
+    (sym c.index.ensures)
 
 pub row-requires-clause-node : goal.row-requires-clause-node
 row-requires-clause-node c =
     let nodes = c.in_ok-picked.picked.nodes.items in
     let some : 0 < length nodes = search rules in
     below (length c.in_ok-tree.tree.rows)
-        (c.in_ok-picked.ensures.disjoint.nodes 0 _ (slice_get-get_or nodes 0 c.index-2.result.now some))
-        (sym c.index-2.ensures)
+    (c.in_ok-picked.ensures.disjoint.nodes 0 _ (slice_get-get_or nodes 0 c.index-2.result.now some))
+    (sym c.index-2.ensures)

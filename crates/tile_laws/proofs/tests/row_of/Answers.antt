@@ -15,6 +15,6 @@ row-requires-clause-sums c =
     let picked = c.in_ok-picked.picked in
     let some : c.args.number - 1 < length picked.nodes.items = search rules in
     renamed c.in_ok-tree.tree
-        (sums_of_one c.in_ok-tree.tree picked.nodes.items picked.sums.items (c.args.number - 1) c.index.result.now c.in_ok-picked.ensures.sums some)
-        (sym (get_or_default_zero picked.nodes.items (c.args.number - 1) c.index-n.result.now some) ∙ sym c.index-n.ensures)
-        (sym c.index.ensures)
+    (sums_of_one c.in_ok-tree.tree picked.nodes.items picked.sums.items (c.args.number - 1) c.index.result.now c.in_ok-picked.ensures.sums some)
+    (sym (get_or_default_zero picked.nodes.items (c.args.number - 1) c.index-n.result.now some) ∙ sym c.index-n.ensures)
+    (sym c.index.ensures)
