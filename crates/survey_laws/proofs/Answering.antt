@@ -1,5 +1,5 @@
 -- What the words of `detect` answer to an input with an image.
-use Rattle.std.proofs.Common.{◌≡◌, ◌∙◌, ℕ, ◌+◌, ◌*◌, Bool, true, false, cond, List, ◌++◌, length, drop, sym, ap, subst, Option, Some, None}
+use Rattle.std.proofs.Common.{rules, ◌≡◌, ◌∙◌, ℕ, ◌+◌, ◌*◌, Bool, true, false, cond, List, ◌++◌, length, drop, sym, ap, subst, Option, Some, None}
 use Rattle.std.proofs.Common.{Result, Ok, Err, nat_lt, ◌<◌, ◌≤◌, refl, arith}
 use Rattle.std.specs.Prelude.{ℤ, pos, neg_ℤ, ◌≤ℤ◌, slice_get}
 use Rattle.std.specs.Int.{int_max, int_min}
@@ -25,7 +25,7 @@ use Rattle.pixel_plane.specs.Stored.{stored_plane, is_out_of_range, value_limits
 use Rattle.pixel_plane.specs.Reading.{image_bytes}
 use Rattle.pixel_plane.specs.Verdicts.{Verdict, image, unfound, unreadable, truncated, out_of_range, image_unless, image_behind, verdict_on_hdu, verdict_on_found, verdict_on}
 use Rattle.mesh_background.specs.Residuals.{residual_of}
-use Rattle.mesh_background.specs.Laws.{ResidualIsPlane, ResidualIsInRange}
+use Rattle.mesh_background.specs.Laws.{ResidualIsPlane, ResidualIsInRange, IsNumberInHalfRange}
 use Rattle.source_pick.specs.declared.choice.Choice.{Choice}
 use Rattle.orders.specs.declared.words.Order.{Order}
 use Rattle.orders.specs.declared.words.Job.TheVariants.{Detect}
@@ -130,9 +130,10 @@ pub answer_accepted : DetectionIsAccepted → ResidualIsPlane → ResidualIsInRa
 answer_accepted law planes ranges limits words bytes rest order choice plane head end order_is job_is image_is few =
     let residual = residual_of plane order.mesh order.flat in
     let read : IsReadPlane plane = plane_is limits bytes order.hdu plane head end image_is in
+    let own : IsNumberInHalfRange None plane = search rules in
     let there : IsRunsPlane residual = record {
-      one_each = planes plane order.mesh order.flat read.one_each;
-      in_range = ranges plane order.mesh order.flat read.half;
+      one_each = planes None plane order.mesh order.flat read.one_each;
+      in_range = ranges None plane order.mesh order.flat read.half own;
     } in
     let same = answer_is limits words bytes order choice plane head end order_is job_is image_is in
     let output = ap (λ (a : Answer). a.output) same ∙ output_is limits words bytes order choice plane head end order_is job_is image_is in (
