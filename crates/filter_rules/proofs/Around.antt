@@ -8,7 +8,7 @@ use Rattle.comp_tree.specs.Raster.{Raster, IsPlane, is_defined}
 use Rattle.comp_tree.specs.Components.{nodes, node_of, is_in_node, tree_of}
 use Rattle.comp_tree.specs.Nesting.{node_numbers, lies_within}
 use Rattle.comp_tree.specs.Laws.{IsAncestor, parent, above, top_of}
-use Rattle.comp_tree.proofs.Exported.{top-representative, top-defined, length-rows, ancestors_are_the_larger_nodes, pixels_belong_to_their_ancestors}
+use Rattle.comp_tree.proofs.Exported.{length-rows, ancestors_are_the_larger_nodes, pixels_belong_to_their_ancestors}
 use Rattle.comp_tree.proofs.Exported.{all_gives, all_from, in_node-defined, top_inside, within_from_test, test_from_within}
 use Rattle.comp_tree.proofs.Exported as Nodes
 use Rattle.node_sums.proofs.Exported.{among_nodes, ancestor_smaller, goes_down, node_from_among}

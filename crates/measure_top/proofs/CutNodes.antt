@@ -8,7 +8,7 @@ use Rattle.comp_tree.specs.ComponentTree.{no_node}
 use Rattle.comp_tree.specs.Components.{reaches, nodes, node_of, is_candidate, is_in_node, tree_of}
 use Rattle.comp_tree.specs.Nesting.{is_root, level_of_node}
 use Rattle.comp_tree.specs.Laws.{top_of, parent_of_node}
-use Rattle.comp_tree.proofs.Exported.{int_le-from, int_le_trans, int_le_from_lt, cases_int, top-representative, top-defined, length-rows, IsParent}
+use Rattle.comp_tree.proofs.Exported.{int_le-from, int_le_trans, int_le_from_lt, cases_int, top-defined, IsParent}
 use Rattle.comp_tree.proofs.Exported.{parent-candidate, parent-of_node, below_no_node, AlikeAbove, IsCounterpart, above_level, above_pixels, above_reached}
 use Rattle.comp_tree.proofs.Exported.{above_sym, counterpart, counterpart_pixels, counterpart_sym, counterpart_test, reached_high}
 use Rattle.comp_tree.proofs.Exported as Nodes

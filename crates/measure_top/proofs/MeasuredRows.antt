@@ -1,5 +1,5 @@
 -- The rows of a catalogue with measures: each fits its columns, and they are put one behind the other.
-use Rattle.std.proofs.Common.{◌≡◌, refl, arith, ℕ, ◌^◌, ◌≤◌, List, [], ◌∷◌, ◌++◌, length, ℤ, pos, ◌∙◌, ap, sym, subst, ◌+◌, ◌*◌, ◌<◌, take, get_or, append-nil}
+use Rattle.std.proofs.Common.{◌≡◌, refl, arith, ℕ, ◌≤◌, List, [], ◌∷◌, ◌++◌, length, ℤ, pos, ◌∙◌, ap, sym, subst, ◌+◌, ◌*◌, ◌<◌, take, get_or, append-nil}
 use Rattle.std.proofs.Common.{length-append}
 use Rattle.std.proofs.lemmas.Int.{ints}
 use Rattle.fits_write.specs.declared.table.Column.{Column}

@@ -1,5 +1,5 @@
 -- Bookkeeping: how far a plane has been cut, and what is kept of the sources between the two trees.
-use Rattle.std.specs.Prelude.{◌≡◌, ℕ, ◌*◌, ◌^◌, ◌<◌, ◌≤◌, cond, ℤ, ◌≤ℤ◌, List, length, map, Some, None, slice_get, slice_index}
+use Rattle.std.specs.Prelude.{◌≡◌, ℕ, ◌*◌, ◌<◌, ◌≤◌, cond, ℤ, ◌≤ℤ◌, List, length, map, Some, None, slice_get, slice_index}
 use Rattle.std.specs.List.{All, flat_map}
 use Rattle.comp_tree.specs.declared.shape.Shape.{Shape}
 use Rattle.comp_tree.specs.declared.shape.Connect.{Connect}

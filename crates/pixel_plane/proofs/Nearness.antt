@@ -1,7 +1,7 @@
 -- How far from 0 the values of an image can be.
-use Rattle.std.proofs.Common.{◌≡◌, ◌≢◌, ◌∙◌, ℕ, ◌+◌, ◌^◌, ◌≤◌, ◌==◌, ◌&&◌, min, inl, inr, Bool, true, false, refl, sym, ap, subst, arith, ℤ, pos, negsuc, neg_ℤ, ◌+ℤ◌, ◌-ℤ◌, ◌≤ℤ◌, w64, to_z, of_z}
+use Rattle.std.proofs.Common.{◌≡◌, ◌∙◌, ℕ, ◌+◌, ◌^◌, ◌≤◌, ◌==◌, min, Bool, true, false, refl, sym, ap, subst, arith, ℤ, pos, negsuc, neg_ℤ, ◌+ℤ◌, ◌-ℤ◌, ◌≤ℤ◌, w64, to_z, of_z}
 use Rattle.std.proofs.Common.{unsigned_abs}
-use Rattle.std.specs.Prelude.{IfSome, Some, None, if◌then◌else◌}
+use Rattle.std.specs.Prelude.{IfSome, Some, if◌then◌else◌}
 use Rattle.std.specs.declared.option.Option.{Option}
 use Rattle.std.specs.Option.{option_eq}
 use Rattle.std.specs.Ordering.{int_eq}
@@ -10,7 +10,7 @@ use Rattle.std.proofs.lemmas.Bool.{and_parts}
 use Rattle.std.proofs.lemmas.Bool.Decides.{nat_tests}
 use Rattle.std.proofs.lemmas.Int.{ints, clamps, by_lt_z}
 use Rattle.comp_tree.specs.Limits.{IsWithin, half_bound, value_bound}
-use Rattle.comp_tree.proofs.Exported.{half_twice, int_eq-true, int_eq_refl}
+use Rattle.comp_tree.proofs.Exported.{half_twice, int_eq-true}
 use Rattle.pixel_plane.specs.declared.limits.Limits.{Limits}
 use Rattle.pixel_plane.specs.WithinLimits.{IsInRange, SuitCount}
 use Rattle.pixel_plane.specs.Nearness.{IsNumberOf, limits_most, leaves_out_least, most_of_four, numbers_most, most_of}

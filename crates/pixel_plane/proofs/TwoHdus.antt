@@ -8,7 +8,6 @@ use Rattle.std.proofs.lemmas.Bool.Decides.{nat_tests}
 use Rattle.dev_io.specs.Streams.{Takes}
 use Rattle.comp_tree.specs.declared.shape.Shape.{Shape}
 use Rattle.comp_tree.specs.Raster.{Raster}
-use Rattle.comp_tree.specs.Shapes.{shape_of}
 use Rattle.comp_tree.proofs.Exported.{shape_by_sides}
 use Rattle.fits_hdu.specs.declared.answer.Hdu.{Hdu}
 use Rattle.fits_hdu.specs.declared.fault.HduStop.{HduStop}

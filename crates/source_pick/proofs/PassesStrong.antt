@@ -6,7 +6,7 @@ use Rattle.std.proofs.lemmas.Int.{to_z-of_z, to_z_pos, fits_signed_mul}
 use Rattle.std.proofs.lemmas.List.{length-set}
 use mir.Syntax.{w64, w128}
 use mir.Val.{SFits, of_z, to_z}
-use lib.Signed.{le_z, lt_z}
+use lib.Signed.{le_z}
 use Rattle.lemmas.proofs.Exported.{int_le-false, int_lt-from_not_le, int_lt-true}
 use Rattle.comp_tree.specs.declared.shape.Connect.{Connect}
 use Rattle.comp_tree.specs.Raster.{Raster, IsPlane}

@@ -25,7 +25,7 @@ use Rattle.comp_tree.specs.Windows.{IsInside, in_whole}
 use Rattle.comp_tree.proofs.Exported.{below_from_defined, in_node-defined, in_whole-below}
 use Rattle.node_sums.specs.declared.entry.Sums.{Sums}
 use Rattle.node_sums.specs.Sums.{sums_of, sums_in}
-use Rattle.node_sums.proofs.Exported.{rows_are, length-sums_in}
+use Rattle.node_sums.proofs.Exported.{rows_are}
 use Rattle.source_pick.specs.declared.choice.Choice.{Choice}
 use Rattle.source_pick.specs.Sources.{is_source, sources}
 use Rattle.node_sums.specs.DisjointNodes.{AreDisjointNodes}

@@ -1,5 +1,5 @@
 -- Bookkeeping: a strip and its flooding as the code keeps them.
-use Rattle.std.specs.Prelude.{◌^◌, ◌≡◌, ℕ, ◌+◌, ◌-◌, ◌%◌, ◌<◌, ◌≤◌, ◌++◌, List, length, map, replicate, slice_get, slice_set, Option, None, ℤ}
+use Rattle.std.specs.Prelude.{◌≡◌, ℕ, ◌+◌, ◌-◌, ◌%◌, ◌<◌, ◌≤◌, ◌++◌, List, length, map, replicate, slice_get, slice_set, Option, None, ℤ}
 use Rattle.comp_tree.specs.Limits.{most_pixels}
 use Rattle.comp_tree.specs.Counts.{count_defined}
 use Rattle.comp_tree.specs.Forest.{no_node, StandsFor}

@@ -15,7 +15,7 @@ use Rattle.survey_core.specs.Fields.{name_cmp}
 use Rattle.survey_core.specs.Tables.{Table, cells_of_field, put, without_field}
 use Rattle.survey_core.specs.Catalogues.{Reading, accepted, rejected, catalogue_in}
 use Rattle.survey_core.specs.Sessions.{Outcome, effect, added, changes, fails, followed_by, joined_outcomes, joined_unless, session}
-use Rattle.survey_core.specs.Laws.{is_on, NoneIsOn, UnnamedFieldsStay, LastAddIsKept, LastDropIsKept, StopsBehind, TablesBeforeAStopAreKept}
+use Rattle.survey_core.specs.Laws.{is_on, NoneIsOn, UnnamedFieldsStay, LastAddIsKept, LastDropIsKept, TablesBeforeAStopAreKept}
 use Rattle.survey_core.proofs.TableLemmas.{same_name, name_itself}
 use Rattle.survey_core.proofs.Going.{session_app, session_stops}
 

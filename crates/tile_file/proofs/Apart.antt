@@ -1,6 +1,6 @@
 -- Tiles, and their parts, are known by their bytes.
 use Rattle.std.proofs.Common.{◌≡◌, ◌∙◌, ℕ, ◌*◌, ◌^◌, ◌<◌, ◌≤◌, Bool, true, false, IsTrue, List, [], ◌∷◌, ◌++◌, length, flat_map}
-use Rattle.std.proofs.Common.{refl, sym, ap, ap₂, subst, subst₂, arith, ℤ, FitsSigned, w64, All, append_assoc, append-nil, length-append, ◌%◌}
+use Rattle.std.proofs.Common.{refl, sym, ap, ap₂, subst, subst₂, arith, ℤ, FitsSigned, w64, All, append_assoc, append-nil, length-append}
 use Rattle.std.specs.Prelude.{codes, ◌↔◌}
 use Rattle.std.specs.List.{AllByRecursion, list_all}
 use Rattle.std.proofs.lemmas.List.{append_cancel_left}
@@ -10,7 +10,7 @@ use Rattle.fits_card.specs.Written.{is_plain, written_logical}
 use Rattle.fits_write.specs.declared.table.Column.{Column}
 use Rattle.fits_write.specs.Blocks.{filled}
 use Rattle.fits_write.specs.Columns.{IsTable}
-use Rattle.fits_write.specs.CatalogueColumns.{catalogue_columns, cells_in_row}
+use Rattle.fits_write.specs.CatalogueColumns.{catalogue_columns}
 use Rattle.fits_write.specs.Hdus.{header, primary_cards, empty_primary, named_hdu, map_hdu, table_hdu}
 use Rattle.source_pick.specs.declared.catalogue.CatRow.{CatRow}
 use Rattle.source_pick.specs.Catalogue.{cells_of}

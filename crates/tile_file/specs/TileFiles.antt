@@ -1,7 +1,6 @@
 -- Model: a tile as the bytes of a FITS file: an empty primary HDU, a table of boxes of the image, the map of the window, and the table of the rows.
-use Rattle.std.specs.Prelude.{◌≡◌, ℕ, ◌+◌, ◌*◌, ◌≤◌, IsTrue, ℤ, pos, FitsSigned, List, [], ◌∷◌, ◌++◌, length, codes}
+use Rattle.std.specs.Prelude.{◌≡◌, ℕ, ◌+◌, ◌*◌, ◌≤◌, IsTrue, ℤ, pos, List, [], ◌∷◌, ◌++◌, length, codes}
 use Rattle.std.specs.List.{All, flat_map}
-use Rattle.std.specs.Int.{w64}
 use Rattle.comp_tree.specs.declared.shape.Shape.{Shape}
 use Rattle.fits_write.specs.declared.table.Cell.TheVariants.{J}
 use Rattle.fits_write.specs.declared.table.Column.{Column}
@@ -9,7 +8,7 @@ use Rattle.fits_write.specs.Columns.{IsTable}
 use Rattle.fits_write.specs.CatalogueColumns.{column, catalogue_columns}
 use Rattle.fits_write.specs.Hdus.{empty_primary, named_hdu, map_hdu, table_hdu}
 use Rattle.source_pick.specs.declared.catalogue.CatRow.{CatRow}
-use Rattle.source_pick.specs.Catalogue.{cells_of, FitsColumns}
+use Rattle.source_pick.specs.Catalogue.{cells_of}
 use Rattle.tile_laws.specs.declared.extents.Extent.{Extent}
 use Rattle.tile_join.specs.declared.tiles.Frame.{Frame}
 use Rattle.tile_join.specs.declared.tiles.TileCatalogue.{TileCatalogue}

@@ -1,17 +1,16 @@
 -- The pixels of a tile's core that lie in none of its open boxes.
-use Rattle.std.proofs.Common.{◌≡◌, ℕ, ◌&&◌, Bool, true, not, List, [], map, refl, sym, ap, subst}
-use Rattle.std.specs.Prelude.{IsTrue, Contains, filter}
+use Rattle.std.proofs.Common.{◌≡◌, ℕ, not, List, [], map, sym, ap, subst}
+use Rattle.std.specs.Prelude.{IsTrue, filter}
 use Rattle.std.specs.List.{list_any}
 use Rattle.std.proofs.lemmas.Bool.{and_from}
 use Rattle.lemmas.proofs.Exported.{IsAmong, among_from_filter, among_of, contains_from_among}
-use Rattle.comp_tree.specs.Raster.{Raster, IsPlane}
 use Rattle.comp_tree.specs.Windows.{is_in_box, seen_through}
 use Rattle.source_pick.specs.declared.catalogue.CatRow.{CatRow}
 use Rattle.source_pick.specs.Catalogue.{moved_row}
 use Rattle.tile_laws.specs.declared.extents.Extent.{Extent}
 use Rattle.tile_laws.specs.Extents.{extent_box}
 use Rattle.tile_laws.specs.Final.{OwnRowsAreFinal}
-use Rattle.tile_laws.specs.Pieces.{DetectionChoice, detected, first_pixel}
+use Rattle.tile_laws.specs.Pieces.{detected, first_pixel}
 use Rattle.tile_laws.proofs.Exported.{IsImageOf, image_of}
 use Rattle.tile_join.specs.declared.tiles.TileCatalogue.{TileCatalogue}
 use Rattle.tile_join.specs.Tiles.{window_of, is_in_frame}

@@ -1,9 +1,8 @@
 -- What one piece that answers for its core tells for good.
-use Rattle.std.proofs.Common.{ℕ, Bool, List, [], ◌∷◌, sym, subst, inl, inr, ◌≡◌, ◌⊎◌, refl}
+use Rattle.std.proofs.Common.{[], ◌∷◌, subst, inl, inr, ◌≡◌, ◌⊎◌, refl}
 use Rattle.std.specs.Prelude.{Contains}
 use Rattle.lemmas.proofs.Exported.{IsAmong, among_of, contains_from_among}
 use Rattle.comp_tree.specs.Raster.{Raster}
-use Rattle.source_pick.specs.declared.catalogue.CatRow.{CatRow}
 use Rattle.tile_laws.specs.Pieces.{DetectionChoice, Piece, AnswersForCore}
 use Rattle.tile_laws.specs.Final.{PartsOfCoresAreAnswered, OwnRowsAreFinal, OwnMeasuresAreFinal}
 use Rattle.tile_laws.proofs.Merging.{TileLaws, place_of_row, row_at_place}

@@ -1,20 +1,20 @@
 -- A piece answers for the pixels of its core that lie in no open box.
-use Rattle.std.proofs.Common.{◌≡◌, ℕ, ◌+◌, ◌-◌, ◌<◌, ◌≤◌, Bool, true, false, not, List, length, refl, sym, ◌∙◌, ap, subst, arith}
+use Rattle.std.proofs.Common.{◌≡◌, ℕ, ◌-◌, ◌<◌, Bool, true, false, not, List, length, refl, sym, ◌∙◌, ap, subst, arith}
 use Rattle.std.specs.Prelude.{IsTrue, Contains, ◌↔◌}
-use Rattle.lemmas.proofs.Exported.{IsAmong, among-filter, among-map, among-range, contains_from_among}
+use Rattle.lemmas.proofs.Exported.{among-filter, among-map, among-range, contains_from_among}
 use Rattle.comp_tree.specs.declared.shape.Shape.{Shape}
 use Rattle.comp_tree.specs.Raster.{Raster, IsPlane, is_at_least}
 use Rattle.comp_tree.specs.Components.{IsReached, nodes, tree_of}
 use Rattle.comp_tree.specs.Laws.{IsNode, IsIn}
 use Rattle.comp_tree.specs.Nesting.{node_numbers}
-use Rattle.comp_tree.specs.Windows.{Window, Box, IsInside, in_whole, is_in_box, seen_through, IsDeepIn}
+use Rattle.comp_tree.specs.Windows.{Box, IsInside, in_whole, is_in_box, seen_through, IsDeepIn}
 use Rattle.comp_tree.proofs.Exported.{each_component_is_a_node, reaches-is_IsReached, reaches_here, seen-shape}
 use Rattle.mesh_background.specs.Windows.{IsOnMesh}
 use Rattle.mesh_background.proofs.Exported.{residual_shape}
 use Rattle.node_sums.specs.Sums.{sums_of}
 use Rattle.node_sums.specs.Outlines.{outline_of, outlines_in}
 use Rattle.tile_laws.specs.declared.extents.Extent.{Extent}
-use Rattle.tile_laws.specs.Clear.{IsBoxWithin, IsSureBox}
+use Rattle.tile_laws.specs.Clear.{IsBoxWithin}
 use Rattle.tile_laws.specs.Extents.{box_extent}
 use Rattle.tile_laws.specs.Final.{LiesInABox, UnopenedPixelsAreAnswered}
 use Rattle.tile_laws.specs.Knowing.{HasBoxIn, node_box}

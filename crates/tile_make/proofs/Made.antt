@@ -6,7 +6,6 @@ use Rattle.std.proofs.lemmas.Bool.{and_parts, or_left, true≢false}
 use Rattle.std.proofs.lemmas.List.{length-map}
 use Rattle.std.proofs.lemmas.List.FromFn.{get_or-map-range_with_len, length-range_with_len}
 use Rattle.std.proofs.lemmas.Nat.{mul-add-lt}
-use Rattle.std.proofs.lemmas.Option.{same_Some}
 use Rattle.lemmas.proofs.Exported.{any_from_among, among_of, contains_from_among}
 use Rattle.comp_tree.specs.declared.shape.Connect.{Connect}
 use Rattle.comp_tree.specs.declared.shape.Shape.{Shape}
@@ -27,7 +26,7 @@ use Rattle.source_pick.specs.Catalogue.{catalogue, moved_row}
 use Rattle.source_pick.specs.Locality.{HaveSameSources, is_beside_high, is_near_high, kept}
 use Rattle.source_pick.proofs.Exported.{shape-kept}
 use Rattle.tile_laws.specs.declared.extents.Extent.{Extent}
-use Rattle.tile_laws.specs.Clear.{clear_box, window_box, IsBoxWithin, IsSureBox}
+use Rattle.tile_laws.specs.Clear.{clear_box, IsBoxWithin, IsSureBox}
 use Rattle.tile_laws.specs.Extents.{box_extent, extent_box}
 use Rattle.tile_laws.specs.Final.{LiesInABox}
 use Rattle.tile_laws.specs.Pieces.{DetectionChoice, Piece, searched, detected, mapped, first_pixel, AnswersForCore}

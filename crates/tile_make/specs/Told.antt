@@ -1,7 +1,5 @@
 -- Bookkeeping: what is known on the way to a tile.
-use Rattle.std.specs.Prelude.{◌≡◌, ℕ, ◌<◌, Bool, true, false, IsTrue, slice_index_or, List, [], length, ℤ, Option, Some, None, pos, ◌≤ℤ◌, FitsSigned}
-use Rattle.std.specs.Int.{w64}
-use Rattle.std.specs.List.{All}
+use Rattle.std.specs.Prelude.{◌≡◌, ℕ, ◌<◌, Bool, true, false, IsTrue, slice_index_or, List, [], ℤ, Option, None, pos, ◌≤ℤ◌}
 use Rattle.comp_tree.specs.declared.shape.Shape.{Shape}
 use Rattle.comp_tree.specs.declared.shape.Connect.{Connect}
 use Rattle.comp_tree.specs.Raster.{Raster, IsPlane, is_defined}
@@ -13,7 +11,7 @@ use Rattle.mesh_background.specs.Laws.{ResidualIsPlane}
 use Rattle.node_sums.specs.Outlines.{outlines_in}
 use Rattle.source_pick.specs.declared.choice.Choice.{Choice}
 use Rattle.source_pick.specs.declared.catalogue.CatRow.{CatRow}
-use Rattle.source_pick.specs.Catalogue.{catalogue, cells_of, FitsColumns}
+use Rattle.source_pick.specs.Catalogue.{catalogue}
 use Rattle.source_pick.specs.Segmentation.{segmentation}
 use Rattle.source_pick.specs.Locality.{KeptIsAPlane}
 use Rattle.tile_laws.specs.declared.extents.Extent.{Extent}

@@ -1,5 +1,5 @@
 -- Model: neighbouring groups of rows.
-use Rattle.std.specs.Prelude.{ℕ, ◌+◌, ◌^◌, ◌≤◌, ◌++◌, List, length, Option, ℤ}
+use Rattle.std.specs.Prelude.{ℕ, ◌+◌, ◌≤◌, ◌++◌, List, length, Option, ℤ}
 use Rattle.comp_tree.specs.Limits.{most_pixels}
 use Rattle.comp_tree.specs.Grid.{LiesInStretch}
 use Rattle.comp_tree.specs.Joined.{Or, Has}

@@ -1,5 +1,5 @@
 -- Bookkeeping: what a walk needs and keeps, and its steps.
-use Rattle.std.specs.Prelude.{ℕ, ◌+◌, ◌^◌, ◌≤◌, List, length, Option, ℤ}
+use Rattle.std.specs.Prelude.{ℕ, ◌+◌, ◌≤◌, List, length, Option, ℤ}
 use Rattle.comp_tree.specs.Limits.{most_pixels}
 use Rattle.comp_tree.specs.Joined.{Or, Only}
 use Rattle.comp_tree.specs.Forest.{ComesEarlier, IsForest, IsLink, JoinSame}

@@ -13,7 +13,6 @@ use Rattle.comp_tree.specs.Raster.{Raster, IsPlane, value_at, level}
 use Rattle.comp_tree.specs.ComponentTree.{ComponentTree}
 use Rattle.comp_tree.specs.Components.{nodes, tree_of, is_in_node}
 use Rattle.comp_tree.specs.Laws.{top_of}
-use Rattle.comp_tree.proofs.Exported.{length-rows}
 use Rattle.comp_tree.specs.Raster.{HasValuesInHalfRange, pixels}
 use Rattle.comp_tree.specs.Limits.{IsWithin, value_bound, half_bound}
 use Rattle.comp_tree.proofs.Exported.{half_twice, within_more, length-pixels}

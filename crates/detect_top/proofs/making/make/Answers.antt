@@ -1,7 +1,6 @@
 use Rattle.std.proofs.Common.{◌∙◌, ap}
 use Rattle.comp_tree.specs.Raster.{Raster}
 use Rattle.comp_tree.specs.Components.{tree_of}
-use Rattle.tree_products.specs.Grounds.{IsTreeOfGround}
 use Rattle.tree_products.proofs.Exported.{made_of_image}
 use Rattle.detect_top.proofs.making.make.Goals as goal
 

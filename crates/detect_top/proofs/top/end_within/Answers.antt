@@ -1,4 +1,4 @@
-use Rattle.std.proofs.Common.{◌≡◌, ℕ, List, Result, subst}
+use Rattle.std.proofs.Common.{ℕ, List, Result, subst}
 use Rattle.orders.specs.declared.words.Order.{Order}
 use Rattle.orders.specs.declared.words.Usage.{Usage}
 use Rattle.run_relation.specs.RunEnds.{EndBytes}

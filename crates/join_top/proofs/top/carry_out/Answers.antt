@@ -1,4 +1,4 @@
-use Rattle.std.proofs.Common.{◌∙◌, ℕ, List, subst}
+use Rattle.std.proofs.Common.{ℕ, List, subst}
 use Rattle.tree_products.specs.Catalogues.{hdus}
 use Rattle.join_top.specs.declared.making.MakeStop.{MakeStop}
 use Rattle.join_top.specs.Joinings.{IsJoinedOutput, IsRefusalOf}

@@ -1,4 +1,4 @@
-use Rattle.std.proofs.Common.{◌≡◌, ◌∙◌, ◌*◌, ℕ, List, map, sym, ap, subst}
+use Rattle.std.proofs.Common.{◌∙◌, ◌*◌, ℕ, List, map, sym, ap, subst}
 use Rattle.comp_tree.specs.declared.shape.Shape.{Shape}
 use Rattle.node_sums.specs.declared.entry.Sums.{Sums}
 use Rattle.node_sums.specs.Sums.{sums_of, AreSumsOfNodes}

@@ -11,7 +11,7 @@ use Rattle.node_sums.specs.Merging.{AreOwn, places_of}
 use Rattle.node_sums.proofs.Passes
 use Rattle.node_sums.proofs.Marks.{few_marked, few_rows}
 use Rattle.node_sums.proofs.Listing
-use Rattle.node_sums.proofs.listed.sums_of_nodes.Goals.{Start, After-deref_mut, After-drop-numbers-2}
+use Rattle.node_sums.proofs.listed.sums_of_nodes.Goals.{After-deref_mut, After-drop-numbers-2}
 use Rattle.node_sums.proofs.listed.sums_of_nodes.Goals as goal
 
 -- the numbers as they are lent

@@ -1,6 +1,5 @@
-use Rattle.std.proofs.Common.{sym, ◌≡◌, ◌<◌, ◌∙◌, ap, subst, get_or, List, Vec, Global, ◌+◌, length, arith}
+use Rattle.std.proofs.Common.{sym, ◌<◌, ◌∙◌, ap, subst, get_or, List, Vec, Global, ◌+◌, length, arith}
 use Rattle.std.proofs.lemmas.Option.{slice_get-get_or}
-use Rattle.node_sums.specs.declared.entry.Sums.{Sums}
 use Rattle.source_sheet.specs.declared.back.Taken.{Taken}
 use Rattle.source_sheet.specs.Backs.{AreTaken}
 use Rattle.source_sheet.proofs.Taking.{none_taken, more_taken, same_taken, taken_up_to}

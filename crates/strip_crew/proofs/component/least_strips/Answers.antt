@@ -1,4 +1,4 @@
-use Rattle.std.proofs.Common.{◌≡◌, ℕ, ◌+◌, ◌*◌, ◌/◌, ◌%◌, ◌^◌, ◌<◌, ◌≤◌, min, mul_comm, subst, sym, arith}
+use Rattle.std.proofs.Common.{ℕ, ◌+◌, ◌*◌, ◌/◌, ◌^◌, ◌<◌, ◌≤◌, mul_comm, subst, sym, arith}
 use Rattle.std.proofs.lemmas.Grind.{div_ceil_times}
 use Rattle.strip_crew.proofs.EvenCuts.{some_rows_fit, ceil_some, ceil_most}
 use Rattle.strip_crew.proofs.component.least_strips.Goals as goal

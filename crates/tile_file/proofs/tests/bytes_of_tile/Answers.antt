@@ -1,5 +1,5 @@
 -- The cells are those of four boxes and of a row.
-use Rattle.std.proofs.Common.{ℕ, ◌≤◌, List, [], ◌∷◌, ℤ, pos, sym, subst, arith, flat_map}
+use Rattle.std.proofs.Common.{ℕ, ◌≤◌, List, [], ◌∷◌, pos, sym, subst, arith, flat_map}
 use Rattle.std.specs.List.{AllByRecursion}
 use Rattle.std.proofs.lemmas.Int.{ints}
 use Rattle.fits_write.specs.declared.table.Column.{Column}

@@ -1,4 +1,4 @@
-use Rattle.std.proofs.Common.{◌≡◌, ◌*◌, ℕ, List, length, map, ◌∙◌, refl, sym, ap, subst}
+use Rattle.std.proofs.Common.{◌*◌, ℕ, List, length, map, ◌∙◌, refl, sym, ap, subst}
 use Rattle.std.specs.Prelude.{FitsSigned}
 use Rattle.std.specs.Int.{w64}
 use Rattle.std.specs.List.{All}

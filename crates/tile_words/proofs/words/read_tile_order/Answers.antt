@@ -1,12 +1,11 @@
-use Rattle.std.proofs.Common.{◌≡◌, ◌∙◌, ℕ, ◌+◌, sym, ap}
+use Rattle.std.proofs.Common.{◌∙◌, ℕ, ◌+◌, sym, ap}
 use Rattle.std.specs.Prelude.{Result}
 use Rattle.command_line.specs.Lines.{texts}
-use Rattle.orders.specs.declared.words.Order.{Order}
 use Rattle.orders.specs.declared.words.Usage.{Usage}
 use Rattle.orders.specs.Words.{at_fault}
 use Rattle.tile_words.specs.declared.words.TileOrder.{TileOrder}
 use Rattle.tile_words.specs.TileWords.{choice_of_job, order_behind}
-use Rattle.tile_words.proofs.Orders.{place_at_fault, number_word_at_fault, order_at_fault, job_at_fault, no_choice, tile_placed, tile_misplaced, IsFrontRead}
+use Rattle.tile_words.proofs.Orders.{place_at_fault, number_word_at_fault, order_at_fault, job_at_fault, no_choice, tile_placed, tile_misplaced}
 use Rattle.tile_words.proofs.words.read_tile_order.Goals as goal
 
 pub returns-in-Err-clause-order : goal.returns-in-Err-clause-order

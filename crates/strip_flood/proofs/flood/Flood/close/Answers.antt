@@ -1,4 +1,4 @@
-use Rattle.std.proofs.Common.{◌^◌, ◌≡◌, ◌+◌, ◌-◌, ◌<◌, ◌≤◌, set, slice_index, length, subst, arith}
+use Rattle.std.proofs.Common.{◌≡◌, ◌+◌, ◌-◌, ◌<◌, ◌≤◌, set, slice_index, length, subst, arith}
 use Rattle.comp_tree.specs.Limits.{most_pixels}
 use Rattle.comp_tree.specs.Forest.{no_node}
 use Rattle.strip_flood.specs.Flood.{state_with, IsInQueue, IsTurning}

@@ -1,4 +1,4 @@
-use Rattle.std.proofs.Common.{◌^◌, ◌+◌, ◌<◌, ◌≤◌, length, arith, ◌∙◌}
+use Rattle.std.proofs.Common.{◌+◌, ◌<◌, ◌≤◌, length, arith, ◌∙◌}
 use Rattle.comp_tree.specs.Limits.{most_pixels}
 use Rattle.strip_flood.specs.Flood.{IsInQueue}
 use Rattle.strip_flood.specs.Strips.{ground_of, state_of}
