@@ -1,6 +1,6 @@
 """The time of `maxdetect.catalogue` where sources reach over several tiles, by the tiles' size.
 
-usage: /usr/bin/python3 bench/nebulae.py MAXDETECT      (MAXDETECT is the built program)
+usage: /usr/bin/python3 bench/nebulae.py MAXWIDE      (MAXWIDE is the built program)
 
 The field has 2600 x 3100 floating-point numbers: 9,000 stars, two nebulae of hundreds and thousands of pixels, and rows
 and columns without a value. Three threads take the tiles. All sizes have to give the same rows and the same map.
@@ -36,7 +36,7 @@ def field():
 
 
 def main(program):
-    os.environ["MAXDETECT"] = program
+    os.environ["MAXDETECT"] = os.environ["MAXWIDE"] = program
     image, first = field(), None
     print("| Tiles of | Seconds | Sources |")
     print("|---|---|---|")

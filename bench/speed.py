@@ -1,10 +1,10 @@
 """Times `maxcat` beside one script of SEP and beside Source Extractor's program, where that is installed, and a large
 image's memory, in one run; prints a table in Markdown.
 
-usage: /usr/bin/python3 bench/speed.py MAXDETECT [--runs N] [--workers N] [--side SIDE] [--large [SIDE]] [--only-large]
-                                       [--many N]
+usage: /usr/bin/python3 bench/speed.py MAXDETECT MAXWIDE [--runs N] [--workers N] [--side SIDE] [--large [SIDE]] [--only-large]
+                                               [--many N]
 
-MAXDETECT is the built program. The image is a star field of 4096 x 4096 floating-point numbers with 42,000 stars, of
+MAXDETECT and MAXWIDE are the built programs. The image is a star field of 4096 x 4096 floating-point numbers with 42,000 stars, of
 which some 33,000 are found. The script of SEP reads it, estimates the background, extracts with the same threshold
 and least area, measures isophotal and Kron fluxes with errors, a circle and half-light radii, and writes a catalogue
 in FITS. Source Extractor has that threshold and area too, and measures these fluxes, ellipses, half-light radii,
@@ -214,6 +214,7 @@ def many_images(rows, folder, given, maxcat):
 def main():
     parser = argparse.ArgumentParser(description=__doc__.splitlines()[0])
     parser.add_argument("maxdetect", type=pathlib.Path)
+    parser.add_argument("maxwide", type=pathlib.Path)
     parser.add_argument("--runs", type=int, default=3)
     parser.add_argument("--workers", type=int, default=4)
     parser.add_argument("--large", type=int, nargs="?", const=10000)
@@ -221,11 +222,11 @@ def main():
     parser.add_argument("--side", type=int, default=4096)
     parser.add_argument("--many", type=int)
     given = parser.parse_args()
-    program, package = os.fspath(given.maxdetect.resolve()), os.fspath(TOP / "python")
+    programs = {"MAXDETECT": os.fspath(given.maxdetect.resolve()), "MAXWIDE": os.fspath(given.maxwide.resolve())}
     maxcat = [sys.executable, "-m", "maxdetect._cli"]
     with tempfile.TemporaryDirectory() as name:
         folder = pathlib.Path(name)
-        rows = Printed(folder, given.runs, {**os.environ, "MAXDETECT": program, "PYTHONPATH": package})
+        rows = Printed(folder, given.runs, {**os.environ, **programs, "PYTHONPATH": os.fspath(TOP / "python")})
         if not given.only_large:
             one_image(rows, folder, given, maxcat)
         if given.many:

@@ -4,21 +4,14 @@ usage: /usr/bin/python3 tests/compare_tiles.py MAXDETECT MAXWIDE [--cases N] [--
 
 Case k of a seed is always the same: two images of at most 48 x 48 pixels with their settings. Columns, their types, and
 the map have to be those that `maxdetect.detect` finds in the whole: of the first image by `maxdetect.detect_tiles`,
-whole and by tiles in some executor; of the second by the windows in which `maxcat` looks at a field. In half of the
-cases these are small: then they have to be those of all components that a window holds, and no others may be cut. The
-first case that differs is told, and the status is then 1.
-
-The windows are looked at by small_detect.cpp, which g++ builds for it, since a process for each would be most of the
-time; in each case it is compared with the program, too.
+whole and by tiles in some executor; of the second by the windows in which `maxcat` looks at a field. There parts are
+joined again too, in windows as in the whole. The first case that differs is told, and the status is then 1.
 """
 import argparse
 import concurrent.futures
-import ctypes
 import os
 import pathlib
-import subprocess
 import sys
-import tempfile
 import time
 
 import numpy
@@ -27,8 +20,8 @@ from scipy import ndimage
 HERE = pathlib.Path(__file__).resolve().parent
 sys.path.insert(0, str(HERE.parent / "python"))
 import maxdetect  # noqa: E402
-from maxdetect import _holding as holding, _joining as joining, _tiles as tiles, _windows as windows  # noqa: E402
-from maxdetect._columns import DESCRIPTIONS  # noqa: E402
+from maxdetect import _holding as holding, _joining as joining, _pieces as pieces, _sights as sights  # noqa: E402
+from maxdetect import _tiles as tiles, _windows as windows  # noqa: E402
 from maxdetect._rows import Rows  # noqa: E402
 
 SIDE, TOLD = 48, 1000
@@ -112,7 +105,7 @@ def case(seed, number):
 
 def compared(seed, number, executors):
     """In what tiles of a case differ from the whole, or None."""
-    image, threshold, tile, tiles.MARGIN, tiles.MOST_AGAIN, executor, options = case(seed, number)
+    image, threshold, tile, tiles.MARGIN, windows.MOST_AGAIN, executor, options = case(seed, number)
     whole = maxdetect.detect(image, threshold, **options)
     for pool in (None, executors[executor % len(executors)]):
         differs = difference(whole, maxdetect.detect_tiles(image, threshold, tile, pool, **options))
@@ -124,79 +117,54 @@ def compared(seed, number, executors):
 # ---- maxcat's windows
 
 
-def small(library):
-    """The stand-in for `maxdetect.detect`: without a background, and with eight neighbours."""
-
-    def detect(image, threshold, *, min_area=1, min_flux=0, contrast=5, **others):
-        values = numpy.ascontiguousarray(numpy.ma.getdata(image).astype("i8"))
-        defined = numpy.ascontiguousarray(~numpy.ma.getmaskarray(image)).view("u1")
-        segments, rows = numpy.zeros(image.shape, dtype="i4"), numpy.zeros((image.size, 17), dtype="i8")
-        at = [array.ctypes.data_as(ctypes.c_void_p) for array in (values, defined, segments, rows)]
-        limits = [ctypes.c_int64(it) for it in (threshold, min_area, min_flux, contrast)]
-        count = library.small_detect(*at[:2], *map(ctypes.c_int, image.shape[::-1]), *limits, *at[2:])
-        return Rows(dict(zip(DESCRIPTIONS, rows[:count].T.copy()))), segments
-
-    return detect
-
-
 def windows_case(seed, number):
-    """The image, the threshold, how it is cut, what a window has at most, and the settings."""
-    rng = numpy.random.default_rng([seed, number, 1])
-    tile, margin = int(rng.choice([1, 2, 3, 5, 8, 16])), int(rng.choice([1, 2, 8]))
-    image, threshold, options = drawn(rng, sides(rng, tile, 0), 0)
-    most = windows.MOST_PIXELS if rng.random() < 0.5 else int((tile + 2 * margin + 1) ** 2 * rng.uniform(1, 2))
-    plan = windows.Plan(image.shape, tile, margin, 1, tile * int(rng.integers(1, 3)))
-    return image, threshold, plan, most, {**options, "connect": 8}
-
-
-def by_windows(image, threshold, plan, options, detect):
-    """The rows, the map, and which rows are cut."""
-
-    def look_at(box):
-        window = image[box.rows, box.columns]
-        rows, segments = detect(window, threshold, **options)
-        above = (numpy.ma.getdata(window) >= threshold) & ~numpy.ma.getmaskarray(window)
-        return holding.Look(rows, segments, segments, above)
-
-    seen = (holding.tile_sources(look_at, plan, core) for core in plan.cores())
-    pieces = joining.with_cut(seen, plan, lambda squares: (holding.cut_sources(look_at, plan, *it) for it in squares))
-    segments = numpy.zeros(image.shape, dtype="i4")
-    rows, cut = joining.gathered(pieces, segments, lambda count: None)
-    joining.hide(segments)
-    return rows, segments, cut
-
-
-def held(image, threshold, table, plan):
-    """Which sources of the whole lie in components for which there is a window that the program takes."""
-    above = (numpy.ma.getdata(image) >= threshold) & ~numpy.ma.getmaskarray(image)
-    labels, _ = ndimage.label(above, numpy.ones((3, 3)))
-    boxes = [windows.Box(y.start, y.stop, x.start, x.stop) for y, x in ndimage.find_objects(labels)]
-    fits = numpy.array([False] + [plan.least_window(box).fits() for box in boxes])
-    return fits[labels[numpy.asarray(table["YFIRST"]) - 1, numpy.asarray(table["XFIRST"]) - 1]]
-
-
-def kept(rows, segments, chosen):
-    """The chosen rows, numbered from 1, and the map with these."""
-    rows = rows[chosen]
-    rows["NUMBER"] = numpy.arange(1, len(rows) + 1)
-    return rows, numpy.concatenate([[0], numpy.cumsum(chosen) * chosen])[segments]
-
-
-def compared_windows(seed, number, detect):
-    """In what windows of a case differ from the whole, or None: the same rows, or at least the same of all components
-    that a window holds, and no others of these.
+    """The image, the threshold, how it is looked at, how far what is made of a component reaches, what may be made
+    again, the deviations with which parts stay, and the settings.
     """
-    image, threshold, plan, most, options = windows_case(seed, number)
-    whole, segments = detect(image, threshold, **options)
-    if difference(maxdetect.detect(image, threshold, **options), (whole, segments), types=False):
-        return "the stand-in"
-    before, windows.MOST_PIXELS = windows.MOST_PIXELS, most
-    try:
-        rows, its_map, cut = by_windows(image, threshold, plan, options, detect)
-        chosen = held(image, threshold, whole, plan)
-    finally:
-        windows.MOST_PIXELS = before
-    return difference(kept(whole, segments, chosen), kept(rows, its_map, ~cut))
+    rng = numpy.random.default_rng([seed, number, 1])
+    tile, margin = int(rng.choice([3, 5, 8, 16])), int(rng.choice([1, 2, 8]))
+    image, threshold, options = drawn(rng, sides(rng, tile, margin), 0)
+    plan = windows.Plan(windows.Box(0, image.shape[0], 0, image.shape[1]), tile, margin)
+    reach, again = int(rng.choice([1, 1, 2, 5])), int(rng.choice([1, 2, 100]))
+    return image, threshold, plan, reach, again, float(rng.choice([0, 1, 5])), {**options, "connect": 8}
+
+
+def significance(area, light, level):
+    """Deviations of a noise of 3 that pixels don't share."""
+    return light / 3 / area**0.5 if area else 0.0
+
+
+def by_windows(image, threshold, plan, reach, least, options):
+    """The rows and the map."""
+    numbers, segments = image.filled(sights.kernel.LEAST), numpy.zeros(image.shape, dtype="i4")
+    gathered = joining.Gathered(segments, lambda count: None)
+
+    def made(cut):
+        for core, window in cut:
+            seen = sights.Numbers(window.shape)
+            seen.array[...] = numbers[window.rows, window.columns]
+            sight = seen.seen(window, plan.whole, threshold, **options)
+            parts = pieces.sources(seen.array, sight.rows, sight.segments, threshold, significance, least)
+            yield holding.piece(parts, sight.open, core, window, plan.whole, reach)
+
+    if plan.looked_at(made, gathered.take):
+        gathered.drop()
+        gathered.take(*made([(plan.whole, plan.whole)]))
+    rows, _ = gathered.rows()
+    joining.hide(segments)
+    return rows, segments
+
+
+def compared_windows(seed, number):
+    """In what windows of a case differ from the whole, or None."""
+    image, threshold, plan, reach, windows.MOST_AGAIN, least, options = windows_case(seed, number)
+    if not least:
+        table, segments = maxdetect.detect(image, threshold, **options)
+        whole = Rows.of(table), segments
+    else:
+        alone = windows.Plan(plan.whole, SIDE, 1)
+        whole = by_windows(image, threshold, alone, reach, least, options)
+    return difference(whole, by_windows(image, threshold, plan, reach, least, options), types=False)
 
 
 def main():
@@ -208,14 +176,10 @@ def main():
     given = parser.parse_args()
     first, start = getattr(given, "from"), time.perf_counter()
     os.environ.update(MAXDETECT=os.path.abspath(given.maxdetect), MAXWIDE=os.path.abspath(given.maxwide))
-    with tempfile.TemporaryDirectory() as folder:
-        library = os.path.join(folder, "small_detect.so")
-        subprocess.run(["g++", "-O2", "-shared", "-fPIC", "-o", library, HERE / "small_detect.cpp"], check=True)
-        detect = small(ctypes.CDLL(library))
     with concurrent.futures.ProcessPoolExecutor(2) as processes, concurrent.futures.ThreadPoolExecutor(2) as threads:
         for number in range(first, first + given.cases):
             differs = compared(given.seed, number, (InTurn(), threads, processes))
-            windows_differ = compared_windows(given.seed, number, detect)
+            windows_differ = compared_windows(given.seed, number)
             if differs or windows_differ:
                 sys.exit(f"case {number} of seed {given.seed} differs: {differs or 'windows: ' + windows_differ}")
             if (number + 1 - first) % TOLD == 0:

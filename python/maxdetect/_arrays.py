@@ -115,7 +115,8 @@ def catalogue(
         The magnitude of a flux of 1; the catalogue has magnitudes then.
     executor : concurrent.futures.Executor, optional
         What tiles run in.
-    {program}
+    program : str or os.PathLike, optional
+        The path of `maxwide`, or for an image of one tile that of `maxdetect`; by default those of `find_program`.
     sigmas : float, optional
         The threshold, in deviations of the noise of the smoothed image; by default what suits the smoothing.
     fwhm : float, optional

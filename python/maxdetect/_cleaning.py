@@ -13,6 +13,7 @@ from typing import Callable, Iterator, NamedTuple, Tuple, Union
 import numpy
 
 from . import _boxes as boxes
+from ._pieces import Parts
 from ._sky import grown
 
 __all__ = ["kept", "reach"]
@@ -24,6 +25,8 @@ Variance = Callable[[numpy.ndarray], Union[float, numpy.ndarray]]
 BESIDE, CLOSE, LEAST_SHARE = 2, 1, 0.1
 # Half of a box's side, in widths of a point source, and the least of it in pixels.
 HALF, LEAST_HALF = 3.5, 8
+# So many rows are at work at a time.
+ROWS = 256
 
 
 def reach(width: float) -> int:
@@ -45,7 +48,19 @@ class _Around(NamedTuple):
 def _around(
     numbers: numpy.ndarray, beside: numpy.ndarray, half: int, rows: numpy.ndarray, columns: numpy.ndarray
 ) -> _Around:
-    """What lies around the pixels of these rows and columns, in boxes that end where the image does."""
+    """What lies around the pixels of these rows, in order, and columns: in boxes that end where the image does."""
+    found = [_Around(numpy.zeros(0, dtype="i8"), numpy.zeros(0, dtype="i8"))]
+    for top in range(rows[0], rows[-1] + 1, ROWS) if len(rows) else ():
+        some = slice(*numpy.searchsorted(rows, (top, top + ROWS)))
+        seen = slice(max(0, top - half), top + ROWS + half)
+        found.append(_of_boxes(numbers[seen], beside[seen], half, rows[some] - seen.start, columns[some]))
+    return _Around(*(numpy.concatenate(them) for them in zip(*found)))
+
+
+def _of_boxes(
+    numbers: numpy.ndarray, beside: numpy.ndarray, half: int, rows: numpy.ndarray, columns: numpy.ndarray
+) -> _Around:
+    """The same of some rows alone, which hold all boxes."""
     bounds = []
     for at, side in ((rows, numbers.shape[0]), (columns, numbers.shape[1])):
         bounds += [numpy.maximum(at - half, 0), numpy.minimum(at + half + 1, side)]
@@ -57,51 +72,96 @@ def _around(
     return _Around(pixels, boxes.within(boxes.sums(numpy.where(beside, numbers, 0)), *bounds))
 
 
-def _halos(above: numpy.ndarray, labels: numpy.ndarray, segments: numpy.ndarray, least: float) -> Iterator[Tuple]:
-    """The components that have so many pixels away from the sources that stand on them: where each is, its pixels
-    there, and those away from sources.
-    """
-    away = (labels != 0) & ~grown(segments != 0, BESIDE)
-    if away.sum() < least:
-        return
-    # Seldom, and SciPy takes long to load.
-    from scipy import ndimage
+class _Bands:
+    """A window some rows at a time: its numbers, and the map of its sources."""
 
-    components, last = ndimage.label(above, numpy.ones((3, 3)))
-    many = numpy.bincount(components[away], minlength=last + 1) >= least
-    found = ndimage.find_objects(components) if many.any() else []
-    for number in numpy.flatnonzero(many).tolist():
-        at = found[number - 1]
-        own = components[at] == number
-        yield at, own, away[at] & own
+    def __init__(self, numbers: numpy.ndarray, parts: Parts):
+        self.numbers, self.parts, (self.height, self.width) = numbers, parts, numbers.shape
+
+    def rows(self, own: slice, more: int) -> slice:
+        """Some rows with so many above and below, as far as the window goes."""
+        return slice(max(0, own.start - more), min(self.height, own.stop + more))
+
+    def __iter__(self) -> Iterator[Tuple[slice, slice]]:
+        """The rows, some at a time, and which of the parts' pixels stand there, where some do."""
+        for top in range(0, self.height, ROWS):
+            own = slice(top, min(top + ROWS, self.height))
+            some = slice(*numpy.searchsorted(self.parts.places, (own.start * self.width, own.stop * self.width)))
+            if some.stop > some.start:
+                yield own, some
+
+    def values(self, rows: slice) -> numpy.ndarray:
+        """The numbers of some rows."""
+        return numpy.asarray(self.numbers[rows], dtype="i4")
+
+    def painted(self, rows: slice, more: int) -> Tuple[numpy.ndarray, slice]:
+        """The map of some rows with so many above and below, and where they stand there."""
+        wide = self.rows(rows, more)
+        return self.parts.painted(wide, self.width), slice(rows.start - wide.start, rows.stop - wide.start)
+
+    def beside(self, rows: slice, values: numpy.ndarray, threshold: int) -> numpy.ndarray:
+        """Which pixels of some rows, with these numbers, lie beside all components with a source."""
+        painted, own = self.painted(rows, CLOSE)
+        return ~(grown(painted != 0, CLOSE)[own] | (values >= threshold) | (values == numpy.iinfo("i4").min))
+
+    def around(self, half: int, threshold: int) -> _Around:
+        """What lies around the pixels of the sources' nodes, beside all components."""
+        shown, found = self.parts.shown, [_Around(numpy.zeros(0, dtype="i8"), numpy.zeros(0, dtype="i8"))]
+        for own, some in self:
+            rows = self.rows(own, half)
+            values = self.values(rows)
+            at, columns = numpy.divmod(self.parts.places[some][shown[some]], self.width)
+            found.append(_around(values, self.beside(rows, values, threshold), half, at - rows.start, columns))
+        return _Around(*(numpy.concatenate(them) for them in zip(*found)))
+
+    def away(self) -> numpy.ndarray:
+        """Which of the parts' pixels lie away from all sources."""
+        found = [numpy.zeros(0, dtype=bool)]
+        for rows, some in self:
+            painted, own = self.painted(rows, BESIDE)
+            far = ~grown(painted > 0, BESIDE)[own]
+            found.append(far.ravel()[self.parts.places[some] - rows.start * self.width])
+        return numpy.concatenate(found)
+
+
+def _halos(bands: _Bands, half: int, least: float) -> Iterator[Tuple[numpy.ndarray, _Around]]:
+    """For each component that has so many pixels away from the sources that stand on them, which of the pixels of the
+    sources' nodes it has, and what lies around these away from sources.
+    """
+    parts, away = bands.parts, bands.away()
+    owner = parts.components[parts.owners]
+    many = numpy.flatnonzero(numpy.bincount(owner[away], minlength=1) >= least)
+    node = numpy.cumsum(parts.shown) - 1
+    for number in many.tolist():
+        own = numpy.flatnonzero(owner == number)
+        rows, columns = numpy.divmod(parts.places[own], bands.width)
+        top, left = rows[0], columns.min()
+        box = slice(top, rows[-1] + 1), slice(left, columns.max() + 1)
+        far = numpy.zeros([it.stop - it.start for it in box], dtype=bool)
+        far[rows - top, columns - left] = away[own]
+        shown = parts.shown[own]
+        yield node[own[shown]], _around(bands.numbers[box], far, half, rows[shown] - top, columns[shown] - left)
 
 
 def kept(
     numbers: numpy.ndarray,
-    segments: numpy.ndarray,
-    labels: numpy.ndarray,
+    parts: Parts,
     threshold: int,
     area: int,
     width: float,
     variance: Variance = lambda light: 1.0,
 ) -> numpy.ndarray:
-    """Whether each source of a map stays, by number. `numbers` are those of the window in which the program found them
-    with this threshold and this least area, the least 32-bit number where undefined; `labels` is the map without gaps,
-    the width that of a point source, and `variance` gives that of the noise on some light, over that of the sky.
+    """Whether each source of a window stays, by number. `numbers` are those in which the program found them with this
+    threshold and this least area, the least 32-bit number where undefined; the width is that of a point source, and
+    `variance` gives that of the noise on some light, over that of the sky.
     """
-    half, above = _half(width), numbers >= threshold
+    half, bands = _half(width), _Bands(numbers, parts)
     least = LEAST_SHARE * (2 * half + 1) ** 2
-    undefined = numbers == numpy.iinfo(numbers.dtype).min
-    places = numpy.flatnonzero(segments != 0)
-    rows = places // numbers.shape[1]
-    beside, columns = ~(grown(labels != 0, CLOSE) | above | undefined), places - rows * numbers.shape[1]
-    count, total = _around(numbers, beside, half, rows, columns)
-    for at, own, away in _halos(above, labels, segments, least):
-        rows, columns = numpy.nonzero(own & (segments[at] != 0))
-        more = _around(numbers[at], away, half, rows, columns)
-        here = numpy.searchsorted(places, (rows + at[0].start) * numbers.shape[1] + columns + at[1].start)
+    count, total = bands.around(half, threshold)
+    for here, more in _halos(bands, half, least):
         count[here] += more.pixels
         total[here] += more.total
     light = numpy.where(count >= least, numpy.maximum(total / numpy.maximum(count, 1), 0), 0)
-    stand_out = numbers.ravel()[places] >= light + threshold * numpy.sqrt(variance(light))
-    return numpy.bincount(segments.ravel()[places], stand_out, int(labels.max(initial=0)) + 1)[1:] >= area
+    values = numbers.ravel()[parts.places[parts.shown]]
+    stand_out = values >= light + threshold * numpy.sqrt(variance(light))
+    return numpy.bincount(parts.owners[parts.shown], stand_out, len(parts.catalogue) + 1)[1:] >= area

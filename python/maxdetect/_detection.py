@@ -5,7 +5,7 @@ import dataclasses
 import functools
 import multiprocessing
 import threading
-from typing import Any, Callable, Dict, List, NamedTuple, Optional, Tuple, Union
+from typing import Any, Callable, Dict, Iterator, List, NamedTuple, Optional, Tuple, Union
 
 import numpy
 
@@ -19,6 +19,7 @@ from . import (
     _looks as looks,
     _maps as maps,
     _measuring as measuring,
+    _sights as sights,
     _pieces as pieces,
     _pointlike as pointlike,
     scaling,
@@ -32,16 +33,15 @@ from ._flags import CUT, WIDE
 from ._limits import TILE
 from ._rows import Rows, side_by_side
 from ._settings import Settings
-from ._windows import Box, Plan
+from ._windows import MOST_PIXELS, Box, Plan
 
 __all__ = ["TILE", "Detector", "Field", "Settings", "sources"]
 
 
 # So many rows of a window are prepared at a time.
 ROWS = 256
-# How far a tile's window reaches beyond its core, in pixels; and how many cores along a side of the squares by which
-# components are cut that are too large for any window.
-MARGIN, SQUARE = 64, 2
+# How far a tile's window reaches beyond its core at first, in pixels.
+MARGIN = 64
 # How many neighbours a pixel has.
 CONNECT = 8
 
@@ -54,9 +54,19 @@ class Detector:
         self.sky = found if self.settings.mesh else found.flat()
         self.strips: Dict[str, int] = {}
         self.own_turn, self.program_turn = contextlib.nullcontext(), contextlib.nullcontext()
-        reach = cleaning.reach(how.width) if self.settings.clean else 1
-        tile = self.settings.tile
-        self.plan = Plan(field.shape, tile, MARGIN, reach, SQUARE * tile)
+        self.whole = Box(0, field.shape[0], 0, field.shape[1])
+        # What is made of a component depends on the pixels up to so many columns and rows from it.
+        self.reach = cleaning.reach(how.width) if self.settings.clean else 1
+
+    def share_strips(self) -> None:
+        """From here on the program works with as many threads as there are workers: the image is looked at whole."""
+        if self.settings.workers > 1:
+            self.strips = {"strips": 16, "workers": self.settings.workers}
+
+    @property
+    def plan(self) -> Plan:
+        """How the image is looked at."""
+        return Plan(self.whole, self.settings.tile, max(MARGIN, 2 * self.reach), largest=MOST_PIXELS)
 
     def noise(self, rows: slice, columns: slice) -> Union[float, numpy.ndarray]:
         """The noise of a window's pixels, in the image's units: one number, or an array."""
@@ -70,42 +80,39 @@ class Detector:
         noise = numpy.asarray(self.noise(slice(middle, middle + 1), slice(0, self.field.shape[1])))
         return float(numpy.median(noise[numpy.isfinite(noise)])) if numpy.isfinite(noise).any() else self.sky.noise
 
-    def numbers(self, box: Box) -> numpy.ndarray:
-        """What the program is to see of a window: 32-bit numbers, kernel.LEAST where it is undefined."""
-        numbers = numpy.empty(box.shape, dtype="i4")
+    def numbers(self, box: Box) -> sights.Numbers:
+        """What the program is to see of a window."""
+        made = sights.Numbers(box.shape)
         # Some rows at a time stay in the processor's cache.
         for top in range(box.top, box.bottom, ROWS):
             rows = slice(top, min(top + ROWS, box.bottom))
             seen = looks.seen(self.field, self.sky, self.how.smooth, rows, box.columns)
             seen *= numpy.float32(scaling.SIGMA / self.how.noise)
-            numbers[top - box.top : rows.stop - box.top] = scaling.whole_numbers(seen).filled(kernel.LEAST)
-        return numbers
+            made.array[top - box.top : rows.stop - box.top] = scaling.whole_numbers(seen).filled(kernel.LEAST)
+            maps.let_go(made.array)
+        return made
 
-    def __call__(self, box: Box) -> holding.Look:
-        """The sources of a window, and its maps. Where the field is cleaned, the column KEPT says of each source
-        whether it is more than a peak of noise on faint light.
+    def __call__(self, core: Box, window: Box, make: Callable = holding.piece) -> holding.Piece:
+        """The sources that belong to a tile. Where the field is cleaned, the column KEPT says of each whether it is
+        more than a peak of noise on faint light.
         """
         how, settings = self.how, self.settings
-        options = {"min_area": how.min_area, "contrast": settings.contrast or 0, "connect": CONNECT}
+        options = {"min_area": how.min_area, "contrast": settings.contrast or 0, "connect": CONNECT, "mesh": 0}
         with self.own_turn:
-            numbers = self.numbers(box)
+            seen = self.numbers(window)
         with self.program_turn:
-            catalogue, segments = kernel.detect_stored(
-                numbers, how.threshold, program=self.program, mesh=0, **options, **self.strips
-            )
+            sight = seen.seen(window, self.whole, how.threshold, self.program, **options, **self.strips)
         with self.own_turn:
-            return self._look(numbers, catalogue, segments)
+            return make(self._parts(seen.array, sight), sight.open, core, window, self.whole, self.reach)
 
-    def _look(self, numbers: numpy.ndarray, catalogue: Rows, segments: numpy.ndarray) -> holding.Look:
+    def _parts(self, seen: numpy.ndarray, sight: sights.Sight) -> pieces.Parts:
         """What is made of the program's answer for these numbers."""
         how, settings = self.how, self.settings
         least = settings.split_sigmas if settings.contrast is None else 0
-        parts = pieces.sources(numbers, catalogue, segments, how.threshold, how.significance, least, how.patch)
+        parts = pieces.sources(seen, sight.rows, sight.segments, how.threshold, how.significance, least, how.patch)
         if settings.clean:
-            parts.catalogue["KEPT"] = cleaning.kept(
-                numbers, parts.segments, parts.labels, how.threshold, how.min_area, how.width, how.variance
-            )
-        return holding.Look(parts.catalogue, parts.segments, parts.labels, numbers >= how.threshold)
+            parts.catalogue["KEPT"] = cleaning.kept(seen, parts, how.threshold, how.min_area, how.width, how.variance)
+        return parts
 
 
 def sources(
@@ -158,8 +165,8 @@ def _detector(
     if field.settings.cosmic_rays:
         field = dataclasses.replace(field, struck=cosmic.struck(field, found))
     detector = Detector(field, found, looks.way(field, found), program)
-    if len(detector.plan.cores()) == 1 and field.settings.workers > 1:
-        detector.strips = {"strips": 16, "workers": field.settings.workers}
+    if len(detector.plan.cores()) == 1:
+        detector.share_strips()
     return detector
 
 
@@ -178,8 +185,21 @@ def _found(
     progress: Callable[[int], None],
 ) -> _Found:
     """The sources of all tiles; the map has them."""
-    with _looked_at(detector, executor, detector.plan.cores()) as pieces:
-        table, cut = joining.gathered(pieces, segments, progress)
+    gathered, plan = joining.Gathered(segments, progress), detector.plan
+    with _at_work(detector, executor, plan) as pool:
+
+        def made(tiles: List[Tuple[Box, Box]]) -> Iterator[holding.Piece]:
+            return each(pool, _Tile(detector), tiles)
+
+        left = plan.looked_at(made, gathered.take)
+        if left and detector.whole.pixels <= plan.largest:
+            gathered.drop()
+            detector.share_strips()
+            gathered.take(detector(detector.whole, detector.whole))
+        elif left:
+            for piece in each(pool, _Tile(detector, holding.cut_piece), left):
+                gathered.take(piece)
+    table, cut = gathered.rows()
     seen = len(table)
     if detector.settings.clean:
         table, cut = _cleaned(table, cut, segments)
@@ -199,12 +219,12 @@ def _meta(detector: Detector, skies: "_Skies", found: _Found) -> Dict[str, Any]:
 
 
 @contextlib.contextmanager
-def _looked_at(detector: Detector, executor: Optional[concurrent.futures.Executor], cores: List[Box]):
-    """The pieces of the tiles with these cores. Where they follow each other the next one is prepared while the program
-    looks at one: both the program and Python have one in hand at a time, so that memory has room for both. In one of
-    several workers each has a processor of its own.
+def _at_work(detector: Detector, executor: Optional[concurrent.futures.Executor], plan: Plan):
+    """What tiles run in. Where they follow each other the next one is prepared while the program looks at one: both the
+    program and Python have one in hand at a time, so that memory has room for both. In one of several workers each has
+    a processor of its own.
     """
-    alone = executor is None and len(cores) > 1 and multiprocessing.parent_process() is None
+    alone = executor is None and len(plan.cores()) > 1 and multiprocessing.parent_process() is None
     with contextlib.ExitStack() as stack:
         stack.callback(spare.give_back)
         if alone:
@@ -213,8 +233,7 @@ def _looked_at(detector: Detector, executor: Optional[concurrent.futures.Executo
                 stack.callback(setattr, detector, name, contextlib.nullcontext())
                 setattr(detector, name, threading.Lock())
             executor = stack.enter_context(concurrent.futures.ThreadPoolExecutor(2))
-        seen = each(executor, _Tile(detector), cores)
-        yield joining.with_cut(seen, detector.plan, functools.partial(each, executor, _Cut(detector)))
+        yield executor
 
 
 def _cleaned(table: Rows, cut: numpy.ndarray, segments: numpy.ndarray) -> Tuple[Rows, numpy.ndarray]:
@@ -296,16 +315,7 @@ class _Tile:
     """The work on one tile."""
 
     detector: Detector
+    make: Callable = holding.piece
 
-    def __call__(self, core: Box) -> joining.Seen:
-        return holding.tile_sources(self.detector, self.detector.plan, core)
-
-
-@dataclasses.dataclass
-class _Cut:
-    """The work on a square in which components are cut."""
-
-    detector: Detector
-
-    def __call__(self, item: Tuple[Box, numpy.ndarray]) -> joining.Piece:
-        return holding.cut_sources(self.detector, self.detector.plan, *item)
+    def __call__(self, item: Tuple[Box, Box]) -> holding.Piece:
+        return self.detector(*item, self.make)

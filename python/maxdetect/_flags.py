@@ -19,7 +19,7 @@ FLAGS = {
     EDGE: "touches the image's edge",
     BEYOND: "its Kron ellipse reaches beyond the image",
     UNDEFINED: "touches an undefined pixel",
-    CUT: "was cut by a tile",
+    CUT: "was cut by a window",
     STRUCK: "touches a pixel that a cosmic ray has hit",
     WIDE: "is wide and faint, found in the means of blocks",
 }

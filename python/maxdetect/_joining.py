@@ -1,69 +1,14 @@
 """The sources of all tiles as one catalogue and one map."""
-import dataclasses
-from typing import Callable, Dict, Iterable, Iterator, List, NamedTuple, Tuple
+from typing import Callable, List, Tuple
 
 import numpy
 
 from . import _maps as maps
+from ._holding import Piece
 from ._rows import Rows, behind_each_other
-from ._windows import Box, Plan, firsts
+from ._windows import firsts
 
-__all__ = ["Piece", "Seen", "gathered", "hide", "joined", "numbered", "renumber", "with_cut", "without_gaps"]
-
-
-@dataclasses.dataclass
-class Piece:
-    """The sources of a tile, in columns and rows of the whole; the pixels of the whole, counted row by row, that
-    belong to one, to which row, and whether the map has them; and which rows are cut.
-    """
-
-    catalogue: Rows
-    pixels: numpy.ndarray
-    owners: numpy.ndarray
-    shown: numpy.ndarray
-    cut: numpy.ndarray
-
-
-class Seen(NamedTuple):
-    """What is seen of the tile with a core: its piece, and the places of the core that belong to components which no
-    window holds, as rows and columns of the whole.
-    """
-
-    core: "Box"
-    piece: Piece
-    unheld: numpy.ndarray
-
-
-def joined(pieces: Iterable[Piece]) -> Piece:
-    """Several pieces as one."""
-    pieces = list(pieces)
-    starts = numpy.cumsum([0] + [len(piece.catalogue) for piece in pieces])
-    owners = [piece.owners + start for piece, start in zip(pieces, starts)]
-    tables = [piece.catalogue for piece in pieces if len(piece.catalogue)] or [pieces[0].catalogue]
-    return Piece(
-        behind_each_other(tables),
-        numpy.concatenate([piece.pixels for piece in pieces]),
-        numpy.concatenate(owners),
-        numpy.concatenate([piece.shown for piece in pieces]),
-        numpy.concatenate([it.cut for it in pieces]),
-    )
-
-
-def with_cut(
-    tiles: Iterable[Seen], plan: Plan, cut: Callable[[Iterable[Tuple[Box, numpy.ndarray]]], Iterable[Piece]]
-) -> Iterator[Piece]:
-    """A piece for each tile. The last one has the sources that are cut, too: `cut` gives a piece for each square that
-    has places in components which no window holds, and for these places.
-    """
-    unheld: Dict[Box, List[numpy.ndarray]] = {}
-    last: List[Piece] = []
-    for seen in tiles:
-        yield from last
-        last = [seen.piece]
-        if len(seen.unheld):
-            unheld.setdefault(plan.square_of(seen.core), []).append(seen.unheld)
-    squares = sorted(unheld, key=lambda square: (square.top, square.left))
-    yield joined([*last, *cut((square, numpy.concatenate(unheld[square])) for square in squares)])
+__all__ = ["Gathered", "hide", "numbered", "renumber", "without_gaps"]
 
 
 # ---- numbers
@@ -103,21 +48,35 @@ def hide(segments: numpy.ndarray) -> None:
         segments[rows] = numpy.maximum(segments[rows], 0)
 
 
-def gathered(
-    pieces: Iterable[Piece], segments: numpy.ndarray, progress: Callable[[int], None]
-) -> Tuple[Rows, numpy.ndarray]:
-    """The rows of all pieces, numbered, and which of them are cut. `segments`, an array full of zeros, gets the map,
-    and the numbers below 0 of the sources to which pixels belong that the map isn't to show.
+class Gathered:
+    """The rows of pieces and which of them are cut, as they come. `segments`, an array full of zeros, gets the map, and
+    the numbers below 0 of the sources to which pixels belong that the map isn't to show.
     """
-    tables, cut, count = [], [], 0
-    for piece in pieces:
-        numbers = piece.owners + (count + 1)
-        segments.reshape(-1)[piece.pixels] = numpy.where(piece.shown, numbers, -numbers)
-        maps.let_go(segments)
-        count += len(piece.catalogue)
-        tables.append(piece.catalogue)
-        cut.append(piece.cut)
-        progress(1)
-    table, places = numbered(tables)
-    renumber(segments, places)
-    return table, numpy.concatenate(cut)[places]
+
+    def __init__(self, segments: numpy.ndarray, progress: Callable[[int], None]):
+        self.segments, self.progress, self.count = segments, progress, 0
+        self.tables: List[Rows] = []
+        self.cut: List[numpy.ndarray] = []
+
+    def take(self, piece: Piece) -> None:
+        """Adds a piece. What a source has that is cut, no other one has already."""
+        numbers, flat = piece.owners + (self.count + 1), self.segments.reshape(-1)
+        free = flat[piece.pixels] == 0 if piece.cut.any() else slice(None)
+        flat[piece.pixels[free]] = numpy.where(piece.shown, numbers, -numbers)[free]
+        maps.let_go(self.segments)
+        self.count += len(piece.catalogue)
+        self.tables.append(piece.catalogue)
+        self.cut.append(piece.cut)
+        self.progress(1)
+
+    def drop(self) -> None:
+        """Forgets all of them."""
+        for rows in maps.bands(self.segments):
+            self.segments[rows] = 0
+        self.tables, self.cut, self.count = [], [], 0
+
+    def rows(self) -> Tuple[Rows, numpy.ndarray]:
+        """The rows, numbered by their first pixels as the map now is, and which of them are cut."""
+        table, places = numbered(self.tables)
+        renumber(self.segments, places)
+        return table, numpy.concatenate(self.cut)[places]

@@ -211,18 +211,24 @@ def _environment():
     return {"GLIBC_TUNABLES": LARGE_PAGES, **os.environ}
 
 
-def _in_memory():
-    """A file without a name, in memory where the system can."""
+def in_memory():
+    """A file without a name that is open for writing and reading, in memory where the system can."""
     return os.fdopen(os.memfd_create("maxdetect"), "w+b") if hasattr(os, "memfd_create") else tempfile.TemporaryFile()
 
 
 def run(words, pieces, program=None, name="maxdetect"):
     """What a program writes for these words and the pieces of its input, as a file that is open for reading."""
-    with _in_memory() as file, _in_memory() as output:
+    with in_memory() as file:
         for piece in pieces:
             file.write(piece)
-        file.seek(0)
-        path = find_program(program, name)
+        return answered(words, file, program, name)
+
+
+def answered(words, file, program=None, name="maxdetect"):
+    """The same for an input that stands in a file."""
+    file.seek(0)
+    path = find_program(program, name)
+    with in_memory() as output:
         try:
             result = subprocess.run(
                 [path, *words], stdin=file, stdout=output, stderr=subprocess.PIPE, env=_environment(), check=False
@@ -283,14 +289,7 @@ def _read_rows(file):
 def sources_of(output: BinaryIO, segments: numpy.ndarray) -> Rows:
     """The rows of what a program wrote just now, as plain arrays; the map goes into an array of its shape."""
 
-    # Read as it stands, since astropy loads its tables for one.
     def reading(hdus):
-        header, place = hdus["SOURCES"]
-        fields = [
-            (header[f"TTYPE{number}"], {"J": ">i4", "K": ">i8"}[header[f"TFORM{number}"]])
-            for number in range(1, header["TFIELDS"] + 1)
-        ]
-        rows = numbers_at(output, place, numpy.dtype(fields), header["NAXIS2"])
         header, place = hdus["SEGMENT"]
         if segments.shape != (header["NAXIS2"], header["NAXIS1"]):
             raise ValueError("a map of another image")
@@ -298,9 +297,21 @@ def sources_of(output: BinaryIO, segments: numpy.ndarray) -> Rows:
             part = segments[band]
             part[...] = numbers_at(output, place, numpy.dtype(">i4"), part.size).reshape(part.shape)
             place += 4 * part.size
-        return Rows({name: _native(rows[name]) for name, _ in fields})
+        return rows_in(output, hdus)
 
     return answer(output, reading)
+
+
+def rows_in(output: BinaryIO, hdus) -> Rows:
+    """The rows of a table that a program wrote, as plain arrays."""
+    # Read as it stands, since astropy loads its tables for one.
+    header, place = hdus["SOURCES"]
+    fields = [
+        (header[f"TTYPE{number}"], {"J": ">i4", "K": ">i8"}[header[f"TFORM{number}"]])
+        for number in range(1, header["TFIELDS"] + 1)
+    ]
+    rows = numbers_at(output, place, numpy.dtype(fields), header["NAXIS2"])
+    return Rows({name: _native(rows[name]) for name, _ in fields})
 
 
 def numbers_at(file: BinaryIO, place: int, dtype: numpy.dtype, count: int) -> numpy.ndarray:

@@ -6,14 +6,16 @@ import numpy
 from ._columns import CATALOGUE
 from ._rows import Rows, behind_each_other
 
-__all__ = ["rows", "stacked"]
+__all__ = ["Pixels", "bases_of", "of_places", "rows", "stacked"]
 
 AROUND = [(down, across) for down in (-1, 0, 1) for across in (-1, 0, 1) if down or across]
 # Sums of numbers of 32 bits times places are taken by halves of so many bits: each has room in 64.
 HALF = 16
+# The number of an undefined pixel.
+NONE = numpy.iinfo("i4").min
 
 
-class _Sorted(NamedTuple):
+class Pixels(NamedTuple):
     """The pixels of some nodes, those of each one behind the other, row by row; and where each node begins."""
 
     rows: numpy.ndarray
@@ -34,63 +36,62 @@ class _Sorted(NamedTuple):
         """The nodes' values at their pixels."""
         return numpy.repeat(values, numpy.diff(self.starts, append=len(self.rows)))
 
-    def among(self, chosen: numpy.ndarray) -> "_Sorted":
+    def among(self, chosen: numpy.ndarray) -> "Pixels":
         """The pixels that are chosen; each node has one."""
         starts = numpy.concatenate([[0], numpy.cumsum(self.sums(chosen.astype("i8")))[:-1]])
-        return _Sorted(self.rows[chosen], self.columns[chosen], self.values[chosen], starts)
+        return Pixels(self.rows[chosen], self.columns[chosen], self.values[chosen], starts)
 
 
-def _pixels(numbers: numpy.ndarray, labels: numpy.ndarray, wanted: numpy.ndarray) -> _Sorted:
-    """The pixels of some labels, in the order of these."""
-    place = numpy.full(int(labels.max(initial=0)) + 1, len(wanted))
-    place[wanted] = numpy.arange(len(wanted))
-    at = numpy.flatnonzero(labels != 0)
-    of = place[labels.ravel()[at]]
-    at, of = at[of < len(wanted)], of[of < len(wanted)]
-    order = numpy.argsort(of, kind="stable")
-    at, of = at[order], of[order]
-    rows, columns = numpy.divmod(at, labels.shape[1])
-    return _Sorted(rows, columns, numbers.ravel()[at].astype("i8"), numpy.searchsorted(of, numpy.arange(len(wanted))))
-
-
-def rows(
-    numbers: numpy.ndarray, labels: numpy.ndarray, wanted: numpy.ndarray, bases: List[Optional[int]]
-) -> Tuple[Rows, numpy.ndarray]:
-    """The rows of some labels' nodes, and a map of them alone.
-
-    A node has the pixels of its label above its base. A base of None stands for the greatest number beside the label:
-    the label is a whole component then.
+def of_places(
+    places: numpy.ndarray, values: numpy.ndarray, of: numpy.ndarray, count: int, shape: Tuple[int, ...]
+) -> Tuple[Pixels, numpy.ndarray]:
+    """The pixels of so many nodes, given row by row in places of an image, with their numbers and their nodes'; and
+    which of the given ones they are.
     """
-    pixels, whole = _pixels(numbers, labels, wanted), numpy.zeros_like(labels)
-    beside, none = _greatest_beside(numbers, labels, pixels), numpy.iinfo(numbers.dtype).min
-    base = numpy.array([level if told is None else told for told, level in zip(bases, beside.tolist())], dtype="i8")
-    # Where nothing beside is defined all pixels are the node's, and the least of them is its base.
-    pixels = pixels.among(pixels.values > pixels.each(base))
-    base = numpy.where(base == none, pixels.least(pixels.values), base)
-    whole[pixels.rows, pixels.columns] = pixels.each(wanted)
+    order = numpy.argsort(of, kind="stable")
+    rows, columns = numpy.divmod(places[order], shape[1])
+    starts = numpy.searchsorted(of[order], numpy.arange(count))
+    return Pixels(rows, columns, values[order].astype("i8"), starts), order
+
+
+def bases_of(numbers: numpy.ndarray, pixels: Pixels, told: List[Optional[int]]) -> numpy.ndarray:
+    """The nodes' bases. One that isn't told is the greatest number beside the pixels, which are a whole component then,
+    and NONE where nothing beside is defined.
+    """
+    if None not in told:
+        return numpy.array(told, dtype="i8")
+    beside = _greatest_below(numbers, pixels, pixels.each(pixels.least(pixels.values)))
+    return numpy.array([level if base is None else base for base, level in zip(told, beside.tolist())], dtype="i8")
+
+
+def rows(wanted: numpy.ndarray, pixels: Pixels, base: numpy.ndarray) -> Tuple[Rows, numpy.ndarray]:
+    """The rows of nodes with these numbers and bases, and which of the pixels they have: those above the base. Where it
+    is NONE all are the node's, and the least of them is its base.
+    """
+    inside = pixels.values > pixels.each(base)
+    pixels = pixels.among(inside)
+    base = numpy.where(base == NONE, pixels.least(pixels.values), base)
     columns = {"NUMBER": wanted, **_columns(pixels, base)}
-    return Rows({name: it.astype(_type(name)) for name, it in columns.items()}), whole
+    return Rows({name: it.astype(_type(name)) for name, it in columns.items()}), inside
 
 
 def _type(name: str) -> str:
     return {"J": "i4", "K": "i8"}[CATALOGUE[name].form]
 
 
-def _greatest_beside(numbers: numpy.ndarray, labels: numpy.ndarray, pixels: _Sorted) -> numpy.ndarray:
-    """The greatest number beside each label, the least one of its type where no pixel there is defined."""
-    least = numpy.iinfo(numbers.dtype).min
-    own = labels[pixels.rows, pixels.columns]
-    greatest = numpy.full(len(own), least, dtype="i8")
+def _greatest_below(numbers: numpy.ndarray, pixels: Pixels, limits: numpy.ndarray) -> numpy.ndarray:
+    """For each node the greatest number beside its pixels that is less than their limit."""
+    greatest = numpy.full(len(limits), NONE, dtype="i8")
     for down, across in AROUND:
         rows, columns = pixels.rows + down, pixels.columns + across
-        inside = (rows >= 0) & (rows < labels.shape[0]) & (columns >= 0) & (columns < labels.shape[1])
-        rows, columns = rows[inside], columns[inside]
-        beside = numpy.where(labels[rows, columns] != own[inside], numbers[rows, columns], least)
+        inside = (rows >= 0) & (rows < numbers.shape[0]) & (columns >= 0) & (columns < numbers.shape[1])
+        beside = numbers[rows[inside], columns[inside]].astype("i8")
+        beside = numpy.where(beside < limits[inside], beside, NONE)
         greatest[inside] = numpy.maximum(greatest[inside], beside)
     return pixels.greatest(greatest)
 
 
-def _columns(pixels: _Sorted, base: numpy.ndarray) -> Dict[str, numpy.ndarray]:
+def _columns(pixels: Pixels, base: numpy.ndarray) -> Dict[str, numpy.ndarray]:
     """The columns of nodes with these pixels; positions count from 1."""
     light = pixels.values - pixels.each(base)
     flux, area = pixels.sums(light), pixels.sums(numpy.ones(len(light), dtype="i8"))

@@ -7,73 +7,110 @@ The wider what they stand on is, the more peaks of noise it has, and the more de
 the root of twice the logarithm of their number. What is left are nodes of the same tree: each reaches down to where it
 meets the next one. So what is made of a component depends on its own pixels alone.
 """
+import array
 import bisect
 import math
-from typing import Callable, Dict, List, NamedTuple, Tuple
+from typing import Callable, Dict, Iterator, List, NamedTuple, Tuple
 
 import numpy
 
 from . import _nodes as nodes
+from ._maps import bands
 from ._rows import Rows
 
 __all__ = ["Parts", "Significance", "sources"]
 
 # How many deviations of the noise so much light is that so many pixels have above a level: area, light, level.
 Significance = Callable[[int, float, int], float]
-# The neighbours of a pixel that come behind it, as rows and columns further on.
-BEHIND = ((0, 1), (1, -1), (1, 0), (1, 1))
+# So many pixels are at work at a time.
+CACHED = 2**16
+LEAST = numpy.iinfo("i4").min
 
 
-class _Grid:
-    """A window's numbers in a flat array with a line of others around it, so that each pixel has eight neighbours."""
+class _Pixels:
+    """The pixels of a window's threshold set, row by row, each with its number and the source to which it belongs, 0
+    for none. One behind the last stands for all that aren't there.
+    """
 
     def __init__(self, numbers: numpy.ndarray, segments: numpy.ndarray, threshold: int):
-        height, width = numbers.shape
-        self.shape, self.stride = (height, width), width + 2
-        least = numpy.iinfo(numbers.dtype).min
-        self.numbers = numpy.pad(numbers, 1, constant_values=least).ravel()
-        self.labels = numpy.pad(segments, 1).ravel()
-        self.places = numpy.flatnonzero(self.numbers >= threshold)
+        self.width, found = numbers.shape[1], []
+        for rows in bands(numbers):
+            values = numpy.asarray(numbers[rows], dtype="i4").ravel()
+            places = numpy.flatnonzero(values >= threshold)
+            labels = numpy.asarray(segments[rows]).ravel()[places].astype("i4")
+            found.append((places + rows.start * self.width, values[places], labels))
+        places, values, labels = (numpy.concatenate(parts) for parts in zip(*found))
+        self.count, self.places = len(places), numpy.append(places, [numpy.iinfo("i8").max] * 3)
+        self.values, self.labels = numpy.append(values, numpy.int32(LEAST)), numpy.append(labels, numpy.int32(0))
 
-    def steps(self, all_around: bool) -> List[int]:
-        behind = [down * self.stride + across for down, across in BEHIND]
-        return behind + [-step for step in behind] if all_around else behind
+    def _in_row(self, places: numpy.ndarray, inside: List[numpy.ndarray]) -> List[numpy.ndarray]:
+        """Which pixels those of a row are that stand left of some places, in them and right of them, where these are
+        inside of the image.
+        """
+        at, found = numpy.searchsorted(self.places, places - 1), []
+        for step, is_inside in zip((-1, 0, 1), inside):
+            is_there = self.places[at] == places + step
+            found.append(numpy.where(is_there & is_inside, at, self.count))
+            at = at + is_there
+        return found
 
-    def map(self) -> numpy.ndarray:
-        height, width = self.shape
-        return numpy.ascontiguousarray(self.labels.reshape(height + 2, self.stride)[1:-1, 1:-1])
+    def behind(self, some: numpy.ndarray) -> List[numpy.ndarray]:
+        """For some pixels which ones the neighbours behind them are: on the right, and in the next row."""
+        places = self.places[some]
+        columns = places % self.width
+        inside = [columns != 0, numpy.True_, columns != self.width - 1]
+        right = numpy.where((self.places[some + 1] == places + 1) & inside[2], some + 1, self.count)
+        return [right, *self._in_row(places + self.width, inside)]
+
+    def around(self, some: numpy.ndarray) -> List[numpy.ndarray]:
+        """The same of all eight neighbours."""
+        places = self.places[some]
+        columns = places % self.width
+        inside = [columns != 0, numpy.True_, columns != self.width - 1]
+        left = numpy.where((self.places[some - 1] == places - 1) & inside[0], some - 1, self.count)
+        return [*self.behind(some), left, *self._in_row(places - self.width, inside)[::-1]]
 
 
-def _share_out(grid: _Grid) -> None:
+def _chunks(some: numpy.ndarray) -> Iterator[numpy.ndarray]:
+    return (some[first : first + CACHED] for first in range(0, len(some), CACHED))
+
+
+def _share_out(pixels: _Pixels) -> None:
     """Gives each pixel of the threshold set that no source has to the one to which the way uphill leads, and what a
     peak without a source holds to the neighbour that stands highest.
     """
-    places = grid.places
-    rest = places[grid.labels[places] == 0]
-    best, up = grid.numbers[rest], rest.copy()
-    for step in grid.steps(True):
-        beside = grid.numbers[rest + step]
-        higher = beside > best
-        best[higher], up[higher] = beside[higher], (rest + step)[higher]
-    way = numpy.empty(len(grid.numbers), dtype="i8")
-    way[places], way[rest] = places, up
+    values, labels = pixels.values, pixels.labels
+    rest = numpy.flatnonzero(labels[:-1] == 0)
+    way = numpy.arange(pixels.count)
+    for some in _chunks(rest):
+        best, up = values[some], some.copy()
+        for beside in pixels.around(some):
+            higher = values[beside] > best
+            best[higher], up[higher] = values[beside[higher]], beside[higher]
+        way[some] = up
+    up = way[rest]
     while True:
         further = way[up]
         if (further == up).all():
             break
         way[rest] = up = further
-    grid.labels[rest] = grid.labels[up]
-    rest = rest[grid.labels[rest] == 0]
+    labels[rest] = labels[up]
+    rest = rest[labels[rest] == 0]
     while rest.size:
-        best, label = numpy.full(rest.size, numpy.iinfo(grid.numbers.dtype).min), numpy.zeros(rest.size, dtype="i4")
-        for step in grid.steps(True):
-            beside = rest + step
-            higher = (grid.labels[beside] != 0) & (grid.numbers[beside] > best)
-            best[higher], label[higher] = grid.numbers[beside][higher], grid.labels[beside][higher]
-        if not label.any():
+        given = numpy.concatenate([_highest(pixels, some) for some in _chunks(rest)])
+        if not given.any():
             break
-        grid.labels[rest] = label
-        rest = rest[label == 0]
+        labels[rest] = given
+        rest = rest[given == 0]
+
+
+def _highest(pixels: _Pixels, some: numpy.ndarray) -> numpy.ndarray:
+    """For some pixels the source of the neighbour that stands highest among those with one."""
+    best, label = numpy.full(some.size, LEAST), numpy.zeros(some.size, dtype="i4")
+    for beside in pixels.around(some):
+        higher = (pixels.labels[beside] != 0) & (pixels.values[beside] > best)
+        best[higher], label[higher] = pixels.values[beside[higher]], pixels.labels[beside[higher]]
+    return label
 
 
 class _Meetings(NamedTuple):
@@ -84,39 +121,54 @@ class _Meetings(NamedTuple):
     levels: List[int]
 
 
-def _meetings(grid: _Grid) -> _Meetings:
+def _meetings(pixels: _Pixels) -> _Meetings:
     """Where parts meet. Two pixels side by side meet at the lesser of their numbers."""
-    owners = grid.labels[grid.places]
-    inside, one = grid.places[owners != 0], owners[owners != 0]
-    found = []
-    for step in grid.steps(False):
-        other = grid.labels[inside + step]
-        touch = (other != 0) & (one != other)
-        at = inside[touch]
-        pair = numpy.sort(numpy.stack([one[touch], other[touch]]), axis=0)
-        found.append(numpy.concatenate([pair, numpy.minimum(grid.numbers[at], grid.numbers[at + step])[None, :]]))
-    one, other, level = numpy.concatenate(found, axis=1).astype("i8")
+    found = [numpy.zeros((3, 0), dtype="i8")]
+    for some in _chunks(numpy.flatnonzero(pixels.labels != 0)):
+        own, numbers = pixels.labels[some], pixels.values[some]
+        for beside in pixels.behind(some):
+            other = pixels.labels[beside]
+            touch = (other != 0) & (own != other)
+            pair = numpy.sort(numpy.stack([own[touch], other[touch]]), axis=0)
+            level = numpy.minimum(numbers[touch], pixels.values[beside[touch]])
+            found.append(numpy.concatenate([pair, level[None, :]]).astype("i8"))
+    one, other, level = numpy.concatenate(found, axis=1)
     order = numpy.lexsort((other, one, -level))
     one, other, level = one[order], other[order], level[order]
-    _, first = numpy.unique(one * (int(grid.labels.max(initial=0)) + 1) + other, return_index=True)
+    _, first = numpy.unique(one * (int(pixels.labels.max()) + 1) + other, return_index=True)
     first.sort()
     return _Meetings(one[first].tolist(), other[first].tolist(), level[first].tolist())
+
+
+def _components(meetings: _Meetings, count: int) -> numpy.ndarray:
+    """For each part, by number, the least one of its component: parts that meet are of one."""
+    least = list(range(count + 1))
+
+    def of(part: int) -> int:
+        while least[part] != part:
+            least[part] = part = least[least[part]]
+        return part
+
+    for one, other in zip(meetings.ones, meetings.others):
+        one, other = of(one), of(other)
+        least[max(one, other)] = min(one, other)
+    return numpy.array([of(part) for part in range(count + 1)])
 
 
 class _Light:
     """How many pixels of some parts stand above a level, and how much light they have there."""
 
-    def __init__(self, grid: _Grid, parts: numpy.ndarray, count: int):
-        labels = grid.labels[grid.places]
+    def __init__(self, pixels: _Pixels, parts: numpy.ndarray, count: int):
+        labels, values = pixels.labels[:-1], pixels.values[:-1]
         inside = numpy.isin(numpy.arange(count + 1), parts)[labels]
         # One number for a pixel, so that they are sorted at once: its part, and the less the greater its number is.
         greatest = numpy.iinfo("i4").max
-        keys = (labels[inside].astype("i8") << 32) + (greatest - grid.numbers[grid.places[inside]].astype("i8"))
+        keys = (labels[inside].astype("i8") << 32) + (greatest - values[inside].astype("i8"))
         keys.sort()
         falling = (keys & (2**32 - 1)) - greatest
-        # As Python's own numbers, since parts are asked for one by one.
-        self.falling = falling.tolist()
-        self.sums = [0, *(-numpy.cumsum(falling)).tolist()]
+        # As Python's own arrays, since parts are asked for one by one.
+        self.falling, self.sums = array.array("q", falling.tobytes()), array.array("q", bytes(8))
+        self.sums.frombytes((-numpy.cumsum(falling)).tobytes())
         self.starts = numpy.searchsorted(keys >> 32, numpy.arange(count + 2)).tolist()
 
     def above(self, part: int, level: int) -> Tuple[int, int]:
@@ -159,13 +211,24 @@ def _owners(
 
 
 class Parts(NamedTuple):
-    """The sources of a window: their rows and map as the program writes them, and a map without gaps, in which each
-    pixel of a source's component belongs to a source.
+    """The sources of a window: their rows, numbered by their first pixels; the pixels of their components, counted row
+    by row, for each of these the number of the source to which it belongs, and whether it is one of the node's, which
+    alone the map has; and for each source, by number, a number of its component.
     """
 
     catalogue: Rows
-    segments: numpy.ndarray
-    labels: numpy.ndarray
+    places: numpy.ndarray
+    owners: numpy.ndarray
+    shown: numpy.ndarray
+    components: numpy.ndarray
+
+    def painted(self, rows: slice, width: int) -> numpy.ndarray:
+        """Some rows of the map; below 0 are the numbers of sources to which pixels belong that it isn't to show."""
+        painted = numpy.zeros((rows.stop - rows.start, width), dtype="i4")
+        some = slice(*numpy.searchsorted(self.places, (rows.start * width, rows.stop * width)))
+        owners = self.owners[some]
+        painted.ravel()[self.places[some] - rows.start * width] = numpy.where(self.shown[some], owners, -owners)
+        return painted
 
 
 def sources(
@@ -182,41 +245,60 @@ def sources(
     Parts with less than `least` deviations of the noise are joined with what they stand on; with 0 none are. Where
     that has more than `patch` pixels, a part has to have more of them.
     """
-    count, grid = len(catalogue), _Grid(numbers, segments, threshold)
-    _share_out(grid)
-    meetings, owner = _meetings(grid), numpy.arange(count + 1)
+    count, pixels = len(catalogue), _Pixels(numbers, segments, threshold)
+    own = pixels.labels[:-1] != 0
+    _share_out(pixels)
+    meetings, owner = _meetings(pixels), numpy.arange(count + 1)
+    components = _components(meetings, count)
     if least > 0 and meetings.ones:
-        light = _Light(grid, numpy.array([meetings.ones, meetings.others]), count)
+        light = _Light(pixels, numpy.array([meetings.ones, meetings.others]), count)
         owner = _owners(meetings, light, count, significance, least, patch)
+    labels = owner.astype("i4")[pixels.labels[:-1]]
+    chosen = labels != 0
+    parts = Parts(catalogue, pixels.places[:-3][chosen], labels[chosen], own[chosen], components)
     if (owner == numpy.arange(count + 1)).all():
-        return Parts(catalogue, segments, grid.map())
-    grid.labels = owner.astype("i4")[grid.labels]
-    labels = grid.map()
+        return parts
+    several = numpy.flatnonzero(numpy.bincount(owner[1:], minlength=count + 1) > 1)
+    bases = _levels(meetings, owner)
+    return _with_changed(parts, owner, *_changed(numbers, pixels.values[:-1][chosen], parts, several, bases))
+
+
+def _levels(meetings: _Meetings, owner: numpy.ndarray) -> Dict[int, int]:
+    """For each part that meets another one in the end the greatest number at which it does."""
     level: Dict[int, int] = {}
     for one, other, at in zip(*meetings):
-        one, other = owner[one], owner[other]
+        one, other = int(owner[one]), int(owner[other])
         if one != other:
             level[one], level[other] = max(at, level.get(one, at)), max(at, level.get(other, at))
-    several = numpy.flatnonzero(numpy.bincount(owner[1:], minlength=count + 1) > 1)
-    changed, whole = nodes.rows(numbers, labels, several, [level.get(int(part)) for part in several])
-    return _with_changed(catalogue, segments, labels, owner, changed, whole)
+    return level
 
 
-def _with_changed(catalogue, segments, labels, owner, changed: Rows, whole: numpy.ndarray) -> Parts:
-    """The rows and the maps with the nodes that parts make together, numbered by their first pixels."""
-    alone = owner == numpy.arange(len(owner))
+def _changed(
+    numbers: numpy.ndarray, values: numpy.ndarray, parts: Parts, several: numpy.ndarray, level: Dict[int, int]
+) -> Tuple[Rows, numpy.ndarray]:
+    """The rows of the nodes that several parts make together, and which pixels of a window's components these have."""
+    place = numpy.full(len(parts.components), -1)
+    place[several] = numpy.arange(len(several))
+    at = numpy.flatnonzero(place[parts.owners] >= 0)
+    pixels, order = nodes.of_places(parts.places[at], values[at], place[parts.owners[at]], len(several), numbers.shape)
+    bases = [level.get(int(part)) for part in several]
+    rows, inside = nodes.rows(several, pixels, nodes.bases_of(numbers, pixels, bases))
+    within = numpy.zeros(len(parts.places), dtype=bool)
+    within[at[order]] = inside
+    return rows, within
+
+
+def _with_changed(parts: Parts, owner: numpy.ndarray, changed: Rows, within: numpy.ndarray) -> Parts:
+    """The parts with the nodes that several make together, numbered by their first pixels."""
+    alone, together = owner == numpy.arange(len(owner)), numpy.zeros(len(owner), dtype=bool)
+    together[numpy.asarray(changed["NUMBER"])] = True
+    alone &= ~together
     alone[0] = False
-    alone[numpy.asarray(changed["NUMBER"])] = False
-    joined = numpy.isin(owner, changed["NUMBER"])
-    rows = catalogue[alone[numpy.asarray(catalogue["NUMBER"])]]
-    rows = nodes.stacked(rows, changed)
+    rows = nodes.stacked(parts.catalogue[alone[numpy.asarray(parts.catalogue["NUMBER"])]], changed)
     rows = rows[numpy.lexsort((rows["XFIRST"], rows["YFIRST"]))]
-    new = numpy.zeros(len(owner), dtype="i4")
-    new[numpy.asarray(rows["NUMBER"])] = numpy.arange(1, len(rows) + 1)
+    old, new = numpy.asarray(rows["NUMBER"]), numpy.zeros(len(owner), dtype="i4")
+    new[old] = numpy.arange(1, len(rows) + 1)
     rows["NUMBER"] = numpy.arange(1, len(rows) + 1, dtype=rows["NUMBER"].dtype)
-    # Only where there are sources, which is far from everywhere.
-    places, shown, gapless = numpy.flatnonzero(labels != 0), numpy.zeros_like(labels), numpy.zeros_like(labels)
-    own, nodes_there = segments.ravel()[places], whole.ravel()[places]
-    shown.ravel()[places] = new[numpy.where(joined[own] | (nodes_there != 0), nodes_there, own)]
-    gapless.ravel()[places] = new[labels.ravel()[places]]
-    return Parts(rows, shown, gapless)
+    shown = numpy.where(together[parts.owners], within, parts.shown)
+    components = numpy.concatenate([[0], parts.components[old]])
+    return Parts(rows, parts.places, new[parts.owners], shown, components)

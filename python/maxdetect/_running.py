@@ -142,6 +142,8 @@ def _ready(given: argparse.Namespace) -> List[Union[Task, Exception]]:
     check_files(given, good)
     if good:
         kernel.find_program()
+        if any(max(field.shape) > detection.TILE for task in good for field in task.fields):
+            kernel.find_program(name="maxwide")
         if given.survey:
             kernel.find_program(name="maxsurvey")
     return every

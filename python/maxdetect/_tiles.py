@@ -11,7 +11,8 @@ import numpy
 from . import _emptycells as emptycells, _kernel as kernel, _wholenumbers as wholenumbers
 from ._docs import described
 from ._executors import each
-from ._windows import Box
+from ._sights import boxes_in, tile_words
+from ._windows import Box, Plan
 
 if TYPE_CHECKING:
     from astropy.table import Table
@@ -20,8 +21,6 @@ __all__ = ["detect_tiles"]
 
 # The side of a tile's core where nothing else is asked, and how far a window reaches beyond it without a mesh.
 TILE, MARGIN = 3840, 128
-# An image is looked at whole where the windows of tiles that are made again have so many times the pixels of the first.
-MOST_AGAIN = 2
 
 
 class _Tile(NamedTuple):
@@ -33,9 +32,7 @@ class _Tile(NamedTuple):
 
 def _answer(output: BinaryIO) -> _Tile:
     def reading(hdus):
-        header, place = hdus["TILE"]
-        cells = kernel.numbers_at(output, place, numpy.dtype(">i4"), 4 * header["NAXIS2"]).reshape(-1, 4)
-        boxes = [Box(top - 1, bottom, left - 1, right) for left, right, top, bottom in cells.tolist()]
+        boxes = boxes_in(output, hdus)
         output.seek(0)
         return _Tile(boxes[3:], output.read())
 
@@ -50,7 +47,7 @@ class _Work:
 
     def __call__(self, item: Tuple[Box, Box, numpy.ndarray]) -> _Tile:
         core, window, image = item
-        words = ["tile", "--whole", *_sides(self.whole), "--window", *_place(window), "--core", *_place(core)]
+        words = tile_words(self.whole, window, core)
         pieces = wholenumbers.fits_of(image, self.blank, pixels=self.whole.pixels)
         return _answer(kernel.run([*words, *self.words], pieces, self.program, "maxwide"))
 
@@ -70,23 +67,6 @@ def _work(
     return _Work(Box(0, image.shape[0], 0, image.shape[1]), [*place, *words], blank, program)
 
 
-def _sides(box: Box) -> List[str]:
-    height, width = box.shape
-    return [str(width), str(height)]
-
-
-def _place(box: Box) -> List[str]:
-    return [str(box.left), str(box.top), *_sides(box)]
-
-
-def _window(box: Box, margin: int, step: int, whole: Box) -> Box:
-    """The window with a margin around a box, as far as the image goes, of whole cells with the side `step`."""
-    wide = box.wider(margin, whole.shape)
-    top, left = (begin // step * step for begin in (wide.top, wide.left))
-    bottom, right = (-(-end // step) * step for end in (wide.bottom, wide.right))
-    return Box(top, min(bottom, whole.bottom), left, min(right, whole.right))
-
-
 def _tiles(
     image: numpy.ndarray,
     side: int,
@@ -94,30 +74,21 @@ def _tiles(
     work: _Work,
     executor: concurrent.futures.Executor,
     progress: Callable[[int], None],
-) -> Tuple[List[bytes], int]:
-    """The files of an image's tiles, of which none has an open box. Those that have some are made again in a window
-    that holds these, each time with twice the margin, if need be in the whole image. Where looking at this once would
-    be less work some tiles are left, and how many.
+    files: List[bytes],
+) -> int:
+    """Adds the files of an image's tiles, of which none has an open box, and says how many tiles are left since looking
+    at the whole would be less work.
     """
-    step, margin, most = max(mesh, 1), 2 * mesh if mesh > 0 else MARGIN, None
-    # The cores of what is to be made, and what their windows have to hold.
-    files, left = [], [(core, core) for core in work.whole.cut(max(side // step, 1) * step)]
-    while left:
-        windows = [_window(held, margin, step, work.whole) for _, held in left]
-        pixels = sum(window.pixels for window in windows)
-        most = most or MOST_AGAIN * pixels
-        if pixels > most:
-            break
-        items = ((core, it, image[it.rows, it.columns]) for (core, _), it in zip(left, windows))
-        again = []
-        for (core, held), made in zip(left, each(executor, work, items)):
-            if made.open:
-                again.append((core, held.hull(made.open)))
-            else:
-                files.append(made.file)
-                progress(1)
-        left, margin = again, 2 * margin
-    return files, len(left)
+
+    def made(tiles: List[Tuple[Box, Box]]) -> Iterator[_Tile]:
+        return each(executor, work, ((core, it, image[it.rows, it.columns]) for core, it in tiles))
+
+    def taken(tile: _Tile) -> None:
+        files.append(tile.file)
+        progress(1)
+
+    plan = Plan(work.whole, side, 2 * mesh if mesh > 0 else MARGIN, max(mesh, 1), wholenumbers.WIDE_PIXELS)
+    return len(plan.looked_at(made, taken))
 
 
 def _handed_on(files: List[bytes]) -> Iterator[bytes]:
@@ -207,11 +178,12 @@ def detect_tiles(
     options = dict(threshold=threshold, min_area=min_area, min_flux=min_flux, contrast=contrast)
     options.update(mesh=mesh, flat=int(flat), connect=connect, strips=strips, workers=workers)
     words, left = kernel.words_of("detect", options), 1
+    files: List[bytes] = []
     work = None if executor is None else _work(image, words, 0 if flat else mesh, blank, program)
     if executor is not None and work is not None:
-        files, left = _tiles(image, side, mesh, work, executor, progress)
+        left = _tiles(image, side, mesh, work, executor, progress, files)
     if left:
-        files = []
+        files.clear()
         output = kernel.run(words, wholenumbers.fits_of(image, blank, pixels=image.size), program, "maxwide")
         progress(left)
     else:

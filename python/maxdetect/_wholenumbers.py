@@ -5,8 +5,8 @@ from typing import Any, Iterator, Optional, Tuple, Union
 import numpy
 from astropy.io import fits
 
-__all__ = ["AT_ONCE", "LEAST", "MOST_PIXELS", "MOST_SIDE", "WIDE_VALUE", "fits_of", "fits_of_stored", "is_too_large"]
-__all__ += ["parts", "undefined_of", "value_range", "whole_number", "whole_numbers"]
+__all__ = ["AT_ONCE", "LEAST", "MOST_PIXELS", "MOST_SIDE", "WIDE_VALUE", "fits_of", "fits_of_stored"]
+__all__ += ["header_of_stored", "is_too_large", "parts", "undefined_of", "value_range", "whole_number", "whole_numbers"]
 
 # How many pixels maxdetect takes, and maxwide; how many on a side; and how far from 0 values lie in an image with no
 # more than maxdetect takes, and in larger ones.
@@ -116,11 +116,16 @@ def fits_of(image: numpy.ndarray, blank: Optional[int], extension: bool = False,
 
 def fits_of_stored(stored: numpy.ndarray) -> Pieces:
     """The same of 32-bit numbers as they are to be stored, the least of them for an undefined pixel."""
-    yield _header(stored.shape, 32, BLANK=LEAST)
+    yield header_of_stored(stored.shape)
     # Some rows at a time, since a copy of all of them would stand beside the program.
     for top in range(0, len(stored), AT_ONCE):
         yield stored[top : top + AT_ONCE].astype(">i4", order="C").reshape(-1).view("u1")
     yield bytes(-4 * stored.size % 2880)
+
+
+def header_of_stored(shape) -> bytes:
+    """The header of an image of 32-bit numbers with these sides, the least of them for an undefined pixel."""
+    return _header(shape, 32, BLANK=LEAST)
 
 
 def _header(shape, bits, extension=False, **more):

@@ -1,18 +1,21 @@
-"""Windows of an image: boxes of its pixels, and how it is cut into tiles that are each looked at in a window."""
+"""Windows of an image: boxes of its pixels, and how it is looked at by tiles, each in a window that is large enough."""
 import dataclasses
 import itertools
-from typing import Iterable, List, Optional, Tuple
+from typing import Any, Callable, Iterable, List, NamedTuple, Protocol, Tuple
 
 import numpy
 
 from ._rows import Rows
-from ._wholenumbers import MOST_PIXELS, MOST_SIDE
 
-__all__ = ["Box", "MOST_PIXELS", "Plan", "firsts", "in_box", "moved"]
+__all__ = ["Box", "MOST_PIXELS", "Made", "Plan", "firsts", "in_box", "moved"]
 
 # Columns that move with a window, and by how much for a pixel.
 ACROSS = {"XMIN": 1, "XMAX": 1, "XFIRST": 1, "XCEN": 1000, "X": 1, "XWIN": 1, "XPEAK": 1}
 ALONG = {"YMIN": 1, "YMAX": 1, "YFIRST": 1, "YCEN": 1000, "Y": 1, "YWIN": 1, "YPEAK": 1}
+# An image is looked at whole where the windows of tiles that are made again have so many times its pixels.
+MOST_AGAIN = 1
+# How many pixels a window has at most: those of an image for which a program takes 2 GB.
+MOST_PIXELS = 2**28
 
 
 @dataclasses.dataclass(frozen=True)
@@ -40,10 +43,6 @@ class Box:
     def pixels(self) -> int:
         return self.shape[0] * self.shape[1]
 
-    def fits(self) -> bool:
-        """The program takes an image of this size."""
-        return self.pixels <= MOST_PIXELS and max(self.shape) <= MOST_SIDE
-
     def holds(self, other: "Box") -> bool:
         """Another box lies in it."""
         return (
@@ -53,11 +52,10 @@ class Box:
             and other.right <= self.right
         )
 
-    def within(self, outer: "Box") -> "Box":
-        """The same box in pixels of another one, as far as it lies there."""
-        top, left = max(self.top, outer.top), max(self.left, outer.left)
-        bottom, right = max(top, min(self.bottom, outer.bottom)), max(left, min(self.right, outer.right))
-        return Box(top - outer.top, bottom - outer.top, left - outer.left, right - outer.left)
+    def meets(self, other: "Box") -> bool:
+        """Another box has a pixel in it."""
+        down = max(self.top, other.top) < min(self.bottom, other.bottom)
+        return down and max(self.left, other.left) < min(self.right, other.right)
 
     def cut(self, side: int) -> List["Box"]:
         """The squares with this side into which it is cut, row by row."""
@@ -75,63 +73,75 @@ class Box:
         return Box(top, min(self.bottom + margin, shape[0]), left, min(self.right + margin, shape[1]))
 
 
-@dataclasses.dataclass(frozen=True)
-class Plan:
-    """How an image is cut: its shape, the side of a tile's core, and its window's margin. What is made of a component
-    depends on the pixels up to `reach` columns and rows from it. Components that no window holds are cut by squares
-    with the side `square`, a multiple of a core's.
-    """
-
-    shape: Tuple[int, ...]
-    tile: int
-    margin: int
-    reach: int
-    square: int
+class Made(Protocol):
+    """What is made of a tile, and the boxes of the components that its window may not know."""
 
     @property
-    def whole(self) -> Box:
-        """All of the image."""
-        return Box(0, self.shape[0], 0, self.shape[1])
+    def open(self) -> List[Box]:
+        ...
+
+
+@dataclasses.dataclass(frozen=True)
+class Plan:
+    """How an image is looked at: the side of a tile's core, how far its window reaches beyond that at first, of how
+    many pixels windows have whole multiples, as far as the image goes, and how many pixels one has at most.
+    """
+
+    whole: Box
+    side: int
+    margin: int
+    step: int = 1
+    largest: int = MOST_PIXELS
 
     def cores(self) -> List[Box]:
         """The cores of the tiles, row by row."""
-        return self.whole.cut(self.tile)
+        return self.whole.cut(max(self.side // self.step, 1) * self.step)
 
-    def square_of(self, core: Box) -> Box:
-        """The square of a core."""
-        top, left = (low - low % self.square for low in (core.top, core.left))
-        return Box(top, min(top + self.square, self.shape[0]), left, min(left + self.square, self.shape[1]))
-
-    def around(self, box: Box, margin: int) -> Box:
+    def window(self, box: Box, margin: int) -> Box:
         """The window with a margin around a box."""
-        return box.wider(margin, self.shape)
+        wide = box.wider(margin, self.whole.shape)
+        top, left = (begin // self.step * self.step for begin in (wide.top, wide.left))
+        bottom, right = (-(-end // self.step) * self.step for end in (wide.bottom, wide.right))
+        return Box(top, min(bottom, self.whole.bottom), left, min(right, self.whole.right))
 
-    def least_window(self, box: Box) -> Box:
-        """The least window that shows all on which depends what is made of a component with this box."""
-        return self.around(box, self.reach)
-
-    def window_holding(self, box: Box, margin: int) -> Optional[Box]:
-        """The window around a box with this margin, or with the half of it and so on down to the least one, that the
-        program takes; None where it takes none of them.
+    def looked_at(
+        self, work: Callable[[List[Tuple[Box, Box]]], Iterable[Made]], taken: Callable[[Any], None]
+    ) -> List[Tuple[Box, Box]]:
+        """Has each tile made of which a window knows all, and handed on. `work` makes several, of their cores and
+        windows, in order. A tile with open boxes is made again in a window that holds these, each time with twice the
+        margin. Some tiles are left, each with its last window: where looking at the whole image would be less work, and
+        where windows would be too large.
         """
-        least = self.least_window(box)
-        windows = [self.around(box, margin >> times) for times in range(margin.bit_length())]
-        return next((it for it in [*windows, least] if it.fits() and it.holds(least)), None)
+        margin, tiles = self.margin, [_Tile(core, core, self.window(core, self.margin)) for core in self.cores()]
+        left: List[_Tile] = []
+        while tiles:
+            margin, again = 2 * margin, []
+            for tile, made in zip(tiles, work([(tile.core, tile.window) for tile in tiles])):
+                if not made.open:
+                    taken(made)
+                    continue
+                held = tile.held.hull(made.open)
+                wider = tile._replace(held=held, window=self.window(held, margin))
+                if wider.window.pixels <= self.largest:
+                    again.append(wider)
+                else:
+                    left.append(tile)
+            tiles = again
+            if self.whole.pixels <= self.largest and _pixels(tiles) > MOST_AGAIN * self.whole.pixels:
+                left, tiles = tiles, []
+        return [(tile.core, tile.window) for tile in left]
 
-    def widest_window(self, box: Box) -> Box:
-        """The window around a box with the margin, or with twice as much and so on as far as the program takes it."""
-        margin = self.margin
-        while self.around(box, 2 * margin).fits() and self.around(box, margin) != self.whole:
-            margin *= 2
-        return self.around(box, margin)
 
-    def deep(self, window: Box) -> Box:
-        """The pixels of a window that have all within `reach` in it too, in the window's own columns and rows."""
-        bounds = []
-        for low, high, side in ((window.top, window.bottom, self.shape[0]), (window.left, window.right, self.shape[1])):
-            first = self.reach * (low > 0)
-            bounds += [first, max(first, high - low - self.reach * (high < side))]
-        return Box(*bounds)
+class _Tile(NamedTuple):
+    """The core of a tile, what its window has to hold, and the window."""
+
+    core: Box
+    held: Box
+    window: Box
+
+
+def _pixels(tiles: List[_Tile]) -> int:
+    return sum(tile.window.pixels for tile in tiles)
 
 
 # ---- the rows of a window's catalogue

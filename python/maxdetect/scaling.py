@@ -6,13 +6,14 @@ import numpy
 
 from ._estimates import floats, of_array
 from ._nddata import AnyImage, array_of
+from ._wholenumbers import WIDE_VALUE
 
 __all__ = ["BLANK", "SIGMA", "deviations", "prepared", "smoothed", "threshold", "whole_numbers"]
 
 SIGMA = 30
 BLANK = -(2**31)
-# Values are cut here: it is a 32-bit floating-point number, and 44 million deviations of the noise.
-GREATEST = 2**31 - 2**8
+# Values are cut here, as far from 0 as a large image's may lie: at 18 million deviations of the noise.
+GREATEST = WIDE_VALUE
 KERNEL = (1, 2, 1)
 
 

@@ -26,7 +26,7 @@ def parts_of(numbers):
 def decided(numbers):
     """The sources' places, and which of them stay."""
     parts = parts_of(numbers)
-    kept = cleaning.kept(numbers, parts.segments, parts.labels, THRESHOLD, AREA, WIDTH)
+    kept = cleaning.kept(numbers, parts, THRESHOLD, AREA, WIDTH)
     table = parts.catalogue
     return numpy.column_stack([table["XCEN"], table["YCEN"]]) / 1000 - 1, kept
 
@@ -102,7 +102,7 @@ def test_a_window_decides_as_the_whole(seed):
     """Where a window holds a component with all within reach of it, its sources stay or go as in the whole."""
     numbers = seen(hilly(seed), seed)
     whole = parts_of(numbers)
-    kept = cleaning.kept(numbers, whole.segments, whole.labels, THRESHOLD, AREA, WIDTH)
+    kept = cleaning.kept(numbers, whole, THRESHOLD, AREA, WIDTH)
     rng, reach, decisions = numpy.random.default_rng(seed), cleaning.reach(WIDTH), 0
     components, _ = ndimage.label(numbers >= THRESHOLD, numpy.ones((3, 3)))
     boxes = ndimage.find_objects(components)
@@ -111,7 +111,7 @@ def test_a_window_decides_as_the_whole(seed):
         bottom, right = (int(it) for it in rng.integers(150, 261, 2))
         window = numpy.ascontiguousarray(numbers[top:bottom, left:right])
         part = parts_of(window)
-        its = cleaning.kept(window, part.segments, part.labels, THRESHOLD, AREA, WIDTH)
+        its = cleaning.kept(window, part, THRESHOLD, AREA, WIDTH)
         firsts = {(y + top, x + left): it for y, x, it in zip(part.catalogue["YFIRST"], part.catalogue["XFIRST"], its)}
         for row, stays in zip(whole.catalogue.table(), kept):
             y, x = boxes[components[row["YFIRST"] - 1, row["XFIRST"] - 1] - 1]
@@ -127,7 +127,7 @@ def test_a_window_decides_as_the_whole(seed):
 def test_on_light_with_its_own_noise_more_is_asked():
     numbers = seen(halo(height=1.2), 7)
     parts = parts_of(numbers)
-    how = (numbers, parts.segments, parts.labels, THRESHOLD, AREA, WIDTH)
+    how = (numbers, parts, THRESHOLD, AREA, WIDTH)
     even, brighter = cleaning.kept(*how), cleaning.kept(*how, lambda light: 1 + light / 30)
     assert even.sum() > brighter.sum() and not (brighter & ~even).any()
 

@@ -77,7 +77,7 @@ def test_the_next_window_is_prepared_while_the_program_works(monkeypatch, stars)
     """The program runs once at a time, and another thread is at work meanwhile."""
     field = detection.Field(ArrayPlane(stars[0]), detection.Settings(tile=90))
     whole = detection.sources(detection.Field(ArrayPlane(stars[0]), detection.Settings()))
-    running, together, threads, detect = [], [], set(), kernel.detect_stored
+    running, together, threads, answered = [], [], set(), kernel.answered
 
     def watched(*given, **more):
         running.append(threading.current_thread())
@@ -85,11 +85,11 @@ def test_the_next_window_is_prepared_while_the_program_works(monkeypatch, stars)
         threads.add(threading.current_thread())
         try:
             time.sleep(0.02)
-            return detect(*given, **more)
+            return answered(*given, **more)
         finally:
             running.pop()
 
-    monkeypatch.setattr(kernel, "detect_stored", watched)
+    monkeypatch.setattr(kernel, "answered", watched)
     tiled = detection.sources(field)
     assert set(together) == {1} and len(threads) == 2
     assert (tiled["NUMBER"] == whole["NUMBER"]).all() and (tiled["FLUX_ISO"] == whole["FLUX_ISO"]).all()

@@ -16,6 +16,17 @@ def image_of(seed, shape=(60, 70)):
     return image
 
 
+def rows(image, labels, wanted, bases):
+    """The rows of some labels' nodes, and a map of them alone."""
+    at = numpy.flatnonzero(numpy.isin(labels, wanted))
+    of = numpy.searchsorted(wanted, labels.ravel()[at])
+    pixels, order = nodes.of_places(at, image.ravel()[at], of, len(wanted), image.shape)
+    found, inside = nodes.rows(wanted, pixels, nodes.bases_of(image, pixels, bases))
+    whole = numpy.zeros_like(labels)
+    whole.ravel()[at[order][inside]] = wanted[of[order][inside]]
+    return found, whole
+
+
 @pytest.mark.parametrize("seed", range(24))
 def test_rows_are_the_programs(seed):
     """Each source of the program, made anew from its own pixels, has the program's row in every column."""
@@ -26,7 +37,7 @@ def test_rows_are_the_programs(seed):
     catalogue, segments = kernel.detect_stored(image, threshold, mesh=0, **options)
     assert len(catalogue)
     wanted = numpy.arange(1, len(catalogue) + 1)
-    found, whole = nodes.rows(image, segments, wanted, catalogue["BASE"].tolist())
+    found, whole = rows(image, segments, wanted, catalogue["BASE"].tolist())
     assert found.colnames == catalogue.colnames and (whole == segments).all()
     for name in catalogue.colnames:
         assert found[name].dtype.itemsize == catalogue[name].dtype.itemsize, name
@@ -39,14 +50,14 @@ def test_the_base_of_a_whole_component_is_found(seed):
     threshold = int(numpy.quantile(image[image != kernel.LEAST], 0.8))
     catalogue, segments = kernel.detect_stored(image, threshold, mesh=0, min_area=2, contrast=1000, connect=8)
     wanted = numpy.arange(1, len(catalogue) + 1)
-    found, _ = nodes.rows(image, segments, wanted, [None] * len(wanted))
+    found, _ = rows(image, segments, wanted, [None] * len(wanted))
     for name in catalogue.colnames:
         assert (found[name] == catalogue[name]).all(), name
 
 
 def test_pixels_at_or_below_the_base_are_left_out():
     image = numpy.array([[5, 9, 5, 8, 5]], dtype="i4")
-    found, whole = nodes.rows(image, numpy.array([[1, 1, 1, 2, 2]], dtype="i4"), numpy.array([1, 2]), [5, 5])
+    found, whole = rows(image, numpy.array([[1, 1, 1, 2, 2]], dtype="i4"), numpy.array([1, 2]), [5, 5])
     assert whole.tolist() == [[0, 1, 0, 2, 0]]
     assert found["FLUX"].tolist() == [4, 3] and found["XCEN"].tolist() == [2000, 4000]
     assert found["BASE"].tolist() == [5, 5] and found["LEVEL"].tolist() == [9, 8]
@@ -55,7 +66,7 @@ def test_pixels_at_or_below_the_base_are_left_out():
 def test_an_image_that_is_all_one_source():
     image = numpy.full((3, 4), 7, dtype="i4")
     catalogue, segments = kernel.detect_stored(image, 1, mesh=0, min_area=1, contrast=0, connect=8)
-    found, _ = nodes.rows(image, segments, numpy.array([1]), [None])
+    found, _ = rows(image, segments, numpy.array([1]), [None])
     for name in catalogue.colnames:
         assert (found[name] == catalogue[name]).all(), name
 
@@ -72,7 +83,7 @@ def test_much_light_far_from_the_corner():
     image[:, :100] = -(2**31) + 2
     image = numpy.concatenate([numpy.full((1, 65000), -(2**31) + 1, dtype="i4"), image])
     catalogue, segments = kernel.detect_stored(image, 1, mesh=0, min_area=1, contrast=0, connect=8)
-    found, _ = nodes.rows(image, segments, numpy.array([1]), [-(2**31) + 2])
+    found, _ = rows(image, segments, numpy.array([1]), [-(2**31) + 2])
     for name in catalogue.colnames:
         assert (found[name] == catalogue[name]).all(), name
 
@@ -82,5 +93,5 @@ def test_the_centre_of_much_light():
     numbers = numpy.full((10, 64000), 2**31 - 2**8, dtype="i4")
     labels = numpy.ones_like(numbers)
     labels[:, 0] = 0
-    found, _ = nodes.rows(numbers, labels, numpy.array([1]), [-(2**31) + 2])
+    found, _ = rows(numbers, labels, numpy.array([1]), [-(2**31) + 2])
     assert found["XCEN"].tolist() == [32001 * 1000] and found["YCEN"].tolist() == [5500]

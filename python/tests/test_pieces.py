@@ -28,10 +28,20 @@ def crowd(seed, shape=(90, 110)):
     return image
 
 
+class Drawn:
+    """The sources of an image with their map, and one without gaps."""
+
+    def __init__(self, parts, image):
+        painted = parts.painted(slice(0, image.shape[0]), image.shape[1])
+        self.catalogue, self.segments, self.labels = parts.catalogue, numpy.maximum(painted, 0), numpy.abs(painted)
+        self.components = parts.components
+
+
 def found(image, least, min_area=2, significance=light):
     options = dict(mesh=0, min_area=min_area, contrast=0, connect=8)
     catalogue, segments = kernel.detect_stored(image, THRESHOLD, **options)
-    return pieces.sources(image, catalogue, segments, THRESHOLD, significance, least), catalogue, segments
+    parts = pieces.sources(image, catalogue, segments, THRESHOLD, significance, least)
+    return Drawn(parts, image), catalogue, segments
 
 
 def rows(table, but=("NUMBER",)):
@@ -53,6 +63,9 @@ def test_each_pixel_of_a_component_is_shared_out(seed, least):
     owners[1:] = components[parts.catalogue["YFIRST"] - 1, parts.catalogue["XFIRST"] - 1]
     shared = parts.labels != 0
     assert (owners[parts.labels[shared]] == components[shared]).all()
+    # Sources of one component have one number for it, and no others have that.
+    pairs = set(zip(parts.components[1:].tolist(), owners[1:].tolist()))
+    assert len(pairs) == len({one for one, _ in pairs}) == len({other for _, other in pairs})
     mapped = parts.segments != 0
     assert (parts.labels[mapped] == parts.segments[mapped]).all()
     # What is one source is one piece.

@@ -20,7 +20,6 @@ from hypothesis import strategies  # noqa: E402
 import maxdetect  # noqa: E402
 from maxdetect import _detection as detection, _emptycells as emptycells  # noqa: E402
 from maxdetect import _tiles as tiles, _windows as windows  # noqa: E402
-from maxdetect._rows import Rows  # noqa: E402
 
 SEED = int(os.environ.get("SEED") or datetime.date.today().strftime("%Y%m%d"))
 
@@ -54,20 +53,16 @@ def test_tiles_are_the_whole(number):
     with pytest.MonkeyPatch.context() as kept:
         # The comparison sets them.
         kept.setattr(tiles, "MARGIN", tiles.MARGIN)
-        kept.setattr(tiles, "MOST_AGAIN", tiles.MOST_AGAIN)
+        kept.setattr(windows, "MOST_AGAIN", windows.MOST_AGAIN)
         with concurrent.futures.ThreadPoolExecutor(2) as pool:
             assert random_tiles.compared(SEED, number, (random_tiles.InTurn(), pool)) is None
 
 
-def plain(image, threshold, **options):
-    """What the program finds, as plain arrays."""
-    table, segments = maxdetect.detect(image, threshold, **options)
-    return Rows.of(table), segments
-
-
 @law(strategies.integers(0, 2**32))
-def test_windows_of_maxcat_are_the_whole_but_for_what_none_holds(number):
-    assert random_tiles.compared_windows(SEED, number, plain) is None
+def test_windows_of_maxcat_are_the_whole(number):
+    with pytest.MonkeyPatch.context() as kept:
+        kept.setattr(windows, "MOST_AGAIN", windows.MOST_AGAIN)
+        assert random_tiles.compared_windows(SEED, number) is None
 
 
 def whole_cells(number):
@@ -98,7 +93,8 @@ def test_an_image_moved_by_cells(number, down, across):
     # From here on a smooth background is the image's, and so are the neighbours.
     within = 1 + (3 * mesh // 2 if options["mesh"] and not options["flat"] else 0)
     there = windows.Box(top + within * (top > 0), height, left + within * (left > 0), width)
-    moved = rows_within(image[top:, left:], threshold, options, there.within(windows.Box(top, height, left, width)))
+    seen = windows.Box(there.top - top, there.bottom - top, there.left - left, there.right - left)
+    moved = rows_within(image[top:, left:], threshold, options, seen)
     assert moved == rows_within(image, threshold, options, there)
 
 

@@ -80,14 +80,14 @@ def test_tiles_of_an_image_with_holes(mesh, tile, flat):
 def test_a_component_larger_than_any_first_window(monkeypatch):
     """It isn't cut: windows grow until one holds it."""
     monkeypatch.setattr(tiles, "MARGIN", 4)
-    monkeypatch.setattr(tiles, "MOST_AGAIN", 100)
+    monkeypatch.setattr(windows, "MOST_AGAIN", 100)
     image = numpy.zeros((120, 130), dtype="i4")
     image[10, 5:125] = image[10:110, 124] = image[60:64, 3:128] = 100
     image[10, 60], image[100, 124], image[62, 20] = 300, 250, 220
     count = whole_and_tiled(image, 50, 16)
     assert maxdetect.detect_tiles(image, 50, 16, InTurn())[0].meta == {}
     # Where many windows would have to be large the image is looked at once.
-    monkeypatch.setattr(tiles, "MOST_AGAIN", 1)
+    monkeypatch.setattr(windows, "MOST_AGAIN", 1)
     assert 72 < whole_and_tiled(image, 50, 16) < count
 
 
@@ -221,20 +221,38 @@ def test_tiles_of_a_crowd(tile):
     whole_and_tiled(image, 68, tile, min_area=5, connect=8, mesh=64)
 
 
-def test_components_are_cut_by_squares_whatever_the_tiles(monkeypatch, stars):
-    """Where no window holds them: halves of tiles in squares give what the tiles gave."""
+def glow(stars):
+    """Stars on the light of a galaxy that reaches over most of the image, with their tiles."""
     rows, columns = numpy.mgrid[:180, :180]
     image = (stars[0][:180, :180] + 900 * numpy.exp(-((rows - 90) ** 2 + (columns - 84) ** 2) / 4000)).astype("f4")
-    found = []
-    monkeypatch.setattr(windows, "MOST_PIXELS", 100**2)
-    for tile, margin, square in ((64, 16, 1), (32, 8, 2)):
-        monkeypatch.setattr(detection, "MARGIN", margin)
-        monkeypatch.setattr(detection, "SQUARE", square)
-        segments = numpy.zeros(image.shape, dtype="i4")
-        settings = detection.Settings(tile=tile, mesh=0, fwhm=2.5)
-        found.append((detection.sources(detection.Field(ArrayPlane(image), settings), segments=segments), segments))
-    (one, segments), (other, others) = found
-    assert (numpy.asarray(one["FLAGS"]) & photometry.CUT != 0).sum() > 5 and len(one) == len(other)
-    assert (segments == others).all()
-    for name in one.colnames:
-        numpy.testing.assert_array_equal(one[name], other[name], name)
+
+    def found(tile):
+        segments, done = numpy.zeros(image.shape, dtype="i4"), []
+        field = detection.Field(ArrayPlane(image), detection.Settings(tile=tile, mesh=0, fwhm=2.5))
+        return detection.sources(field, segments=segments, progress=done.append), segments, sum(done)
+
+    return found
+
+
+def test_windows_grow_until_they_hold_a_component(stars):
+    """Here to the whole image, at which tiles end."""
+    found = glow(stars)
+    whole, segments, _ = found(200)
+    for tile in (64, 32):
+        table, others, _ = found(tile)
+        assert (segments == others).all() and not (numpy.asarray(table["FLAGS"]) & photometry.CUT).any()
+        for name in whole.colnames:
+            numpy.testing.assert_array_equal(whole[name], table[name], name)
+
+
+def test_components_are_cut_where_no_window_may_hold_them(monkeypatch, stars):
+    found = glow(stars)
+    whole, segments, _ = found(200)
+    monkeypatch.setattr(detection, "MOST_PIXELS", 100**2)
+    table, others, done = found(64)
+    cut = numpy.asarray(table["FLAGS"]) & photometry.CUT != 0
+    assert cut.sum() > 5 and done == 9
+    # All others are the whole's, and each source has pixels on the map.
+    places = {(y, x): area for y, x, area in zip(whole["YFIRST"], whole["XFIRST"], whole["AREA"])}
+    assert all(places.get((row["YFIRST"], row["XFIRST"])) == row["AREA"] for row in table.table()[~cut])
+    assert (numpy.bincount(others.ravel(), minlength=len(table) + 1)[1:] > 0).all() and others.max() == len(table)

