@@ -88,7 +88,7 @@ def test_a_component_larger_than_any_first_window(monkeypatch):
     assert maxdetect.detect_tiles(image, 50, 16, InTurn())[0].meta == {}
     # Where many windows would have to be large the image is looked at once.
     monkeypatch.setattr(windows, "MOST_AGAIN", 1)
-    assert 72 < whole_and_tiled(image, 50, 16) < count
+    assert whole_and_tiled(image, 50, 16) == 72 < count
 
 
 def test_components_that_go_around_a_corner(monkeypatch):
