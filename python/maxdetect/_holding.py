@@ -35,24 +35,21 @@ class Piece:
 def _unknown(parts: Parts, window: Box, whole: Box, reach: int) -> List[Box]:
     """The boxes, in the whole, of the components with sources of which not all within reach lies in the window."""
     rows, columns = numpy.divmod(parts.places, window.shape[1])
-    bounds = []
-    for at, side, low, high, end in (
-        (rows, window.shape[0], window.top, window.bottom, whole.bottom),
-        (columns, window.shape[1], window.left, window.right, whole.right),
-    ):
-        bounds.append((at < reach * (low > 0)) | (at >= side - reach * (high < end)))
-    owner = parts.components[parts.owners]
-    found = []
-    for number in numpy.unique(owner[bounds[0] | bounds[1]]).tolist():
-        own = owner == number
-        y, x = rows[own], columns[own]
-        found.append(
-            Box(
-                int(y[0]) + window.top, int(y[-1]) + 1 + window.top,
-                int(x.min()) + window.left, int(x.max()) + 1 + window.left,
-            )
-        )  # fmt: skip
-    return found
+    left, right = reach * (window.left > 0), window.shape[1] - reach * (window.right < whole.right)
+    top, bottom = reach * (window.top > 0), window.shape[0] - reach * (window.bottom < whole.bottom)
+    deep = (rows >= top) & (rows < bottom) & (columns >= left) & (columns < right)
+    component = parts.components[parts.owners]
+    near = numpy.zeros(int(parts.components.max(initial=0)) + 1, dtype=bool)
+    near[component[~deep]] = True
+    some = numpy.flatnonzero(near[component])
+    order = some[numpy.argsort(component[some], kind="stable")]
+    _, starts = numpy.unique(component[order], return_index=True)
+    if not len(starts):
+        return []
+    lows = [numpy.minimum.reduceat(at[order], starts) for at in (rows, columns)]
+    highs = [numpy.maximum.reduceat(at[order], starts) + 1 for at in (rows, columns)]
+    bounds = [lows[0] + window.top, highs[0] + window.top, lows[1] + window.left, highs[1] + window.left]
+    return [Box(*it) for it in numpy.array(bounds).T.tolist()]
 
 
 def _picked(parts: Parts, window: Box, whole: Box, chosen: numpy.ndarray, cut: numpy.ndarray, left: List[Box]) -> Piece:

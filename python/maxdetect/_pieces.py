@@ -15,7 +15,7 @@ from typing import Callable, Dict, Iterator, List, NamedTuple, Tuple
 import numpy
 
 from . import _nodes as nodes
-from ._maps import bands
+from ._maps import bands, let_go
 from ._rows import Rows
 
 __all__ = ["Parts", "Significance", "sources"]
@@ -39,6 +39,7 @@ class _Pixels:
             places = numpy.flatnonzero(values >= threshold)
             labels = numpy.asarray(segments[rows]).ravel()[places].astype("i4")
             found.append((places + rows.start * self.width, values[places], labels))
+            let_go(segments)
         places, values, labels = (numpy.concatenate(parts) for parts in zip(*found))
         self.count, self.places = len(places), numpy.append(places, [numpy.iinfo("i8").max] * 3)
         self.values, self.labels = numpy.append(values, numpy.int32(LEAST)), numpy.append(labels, numpy.int32(0))

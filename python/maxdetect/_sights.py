@@ -28,14 +28,15 @@ class Numbers:
         self, window: Box, whole: Box, threshold: int, program: Optional[kernel.Path] = None, **options: int
     ) -> "Sight":
         """What a program sees of these numbers, those of a window of an image: maxdetect of an image that is no larger
-        than it takes, and else maxwide.
+        than it takes, and else maxwide. Their file is closed then.
         """
         words, name = kernel.words_of("detect", {"threshold": threshold, **options}), "maxdetect"
         if window != whole:
             words, name = [*tile_words(whole, window, window), *words], "maxwide"
         elif whole.pixels > MOST_PIXELS:
             name = "maxwide"
-        output = kernel.answered(words, self.file, program, name)
+        with self.file:
+            output = kernel.answered(words, self.file, program, name)
         return kernel.answer(output, lambda hdus: _sight(output, hdus, window))
 
 
