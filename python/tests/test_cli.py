@@ -332,6 +332,15 @@ def test_mistakes_are_one_line_and_leave_nothing(files, monkeypatch, capsys, wor
     assert text in told(capsys, *words)
 
 
+def test_the_program_of_windows_is_wanted_for_a_large_image(here, capsys, monkeypatch):
+    monkeypatch.setenv("MAXWIDE", "/nowhere/maxwide")
+    assert len(catalogue("image.fits", "-o", "cat.fits")) > 20
+    capsys.readouterr()
+    cut_into_tiles(monkeypatch, 100)
+    err = told(capsys, "image.fits", "-o", "other.fits")
+    assert "/nowhere/maxwide can't be run" in err
+
+
 def test_a_program_that_fails_leaves_nothing(here, capsys, monkeypatch):
     (here / "killed").write_text("#!/bin/sh\nkill -9 $$\n")
     (here / "killed").chmod(0o755)
