@@ -77,7 +77,7 @@ def cut_into_tiles(monkeypatch, side):
 def add_star(image, x, y, flux, width=3.0):
     """A star with a Moffat profile of beta 3; places count from 0."""
     core = width / 2 / (2 ** (1 / 3) - 1) ** 0.5
-    rows, columns = numpy.mgrid[: image.shape[0], : image.shape[1]]
+    rows, columns = numpy.ogrid[: image.shape[0], : image.shape[1]]
     image += flux * 2 / (numpy.pi * core**2) * (1 + ((columns - x) ** 2 + (rows - y) ** 2) / core**2) ** -3
 
 
