@@ -46,8 +46,9 @@ def pytest_collection_modifyitems(config, items):
     """Long tests begin first, shared out among the processes, so that in the end none waits for another's. Without the
     programs there is nothing to test; building them would take many minutes.
     """
-    long = sorted((it for it in items if it.originalname in LONG), key=lambda it: LONG.index(it.originalname))
-    rest = [it for it in items if it.originalname not in LONG]
+    names = {it: getattr(it, "originalname", None) for it in items}
+    long = sorted((it for it in items if names[it] in LONG), key=lambda it: LONG.index(names[it]))
+    rest = [it for it in items if names[it] not in LONG]
     processes = getattr(config, "workerinput", {}).get("workercount", 1)
     # To each process pytest-xdist first gives so many tests that follow each other.
     count, items[:] = len(items) // processes // 4, []
