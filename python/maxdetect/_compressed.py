@@ -1,7 +1,8 @@
 """The tiles of a compressed image, looked at before astropy's decompressor sees them.
 
 That one takes memory for whatever length a table says, never comes to the end of some broken gzip streams, and leaves
-its memory where an HCOMPRESS or PLIO tile says that it is larger than it is. No exception tells of that.
+its memory where an HCOMPRESS or PLIO tile says that it is larger than it is, or where random numbers are to begin
+beyond their end; it divides by the length of a Rice block. No exception tells of that.
 """
 import math
 import re
@@ -20,6 +21,8 @@ SIZES = {"I": 2, "J": 4, "K": 8, "E": 4, "D": 8, "C": 8, "M": 16}
 BROKEN = "a compressed tile is broken"
 # What an HCOMPRESS tile begins with, and how many bytes stand before its pixels.
 HCOMPRESS, BEFORE = b"\xdd\x99", 25
+# So many has the table that dithering takes them from.
+RANDOM_NUMBERS = 10000
 
 
 def check(hdu) -> None:
@@ -27,6 +30,7 @@ def check(hdu) -> None:
     _check_heap(hdu)
     table, rows = table_header(hdu), hdu.compressed_data
     method, names = table.get("ZCMPTYPE"), {name.upper(): name for name in rows.columns.names}
+    _check_settings(table, method)
     gzipped = {"GZIP_COMPRESSED_DATA", *(["COMPRESSED_DATA"] if method in ("GZIP_1", "GZIP_2") else [])}
     pixels = _pixels(table)
     for name in gzipped & set(names):
@@ -38,6 +42,15 @@ def check(hdu) -> None:
     if method == "PLIO_1" and "COMPRESSED_DATA" in names:
         for tile in rows.field(names["COMPRESSED_DATA"]):
             _check_plio(tile.tolist())
+
+
+def _check_settings(table: fits.Header, method: object) -> None:
+    """Looks at the length of a Rice block, and at which of its random numbers a dithered image begins with."""
+    length, first = cards.number(table, "ZVAL1"), cards.number(table, "ZDITHER0")
+    if method == "RICE_1" and length is not None and length < 1:
+        raise ValueError(f"ZVAL1 isn't a number from 1 on: {length}")
+    if table.get("ZQUANTIZ") != "NO_DITHER" and first is not None and not 1 <= first <= RANDOM_NUMBERS:
+        raise ValueError(f"ZDITHER0 isn't a number from 1 to {RANDOM_NUMBERS}: {first}")
 
 
 def _pixels(table: fits.Header) -> numpy.ndarray:

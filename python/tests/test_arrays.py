@@ -46,8 +46,8 @@ def test_masks_and_nan_are_alike():
 @pytest.mark.parametrize("form", ["f4", ">f4", "f8", "i4", "i8"])
 def test_the_order_in_memory_changes_nothing(form, mesh):
     image = star_field()[0][:160, :200].astype(form)
+    one, first = catalogue(image, mesh=mesh, gain=1.0)
     for turned in (image.copy(order="F"), numpy.ma.MaskedArray(image.copy(order="F"), mask=False)):
-        one, first = catalogue(image, mesh=mesh, gain=1.0)
         two, second = catalogue(turned, mesh=mesh, gain=1.0)
         assert (first == second).all() and all((one[name] == two[name]).all() for name in one.colnames)
     background, noise = photometry.sky(turned, first.copy(order="F"), mesh)

@@ -74,7 +74,7 @@ def test_check_images(images):
     table = made("--check", "background,subtracted,rms,apertures")
     shown = {kind: fits.getdata(f"cat.{kind}.fits") for kind in ("background", "subtracted", "rms", "apertures")}
     image = fits.getdata("image.fits")
-    assert shown["background"] == pytest.approx(900, abs=15) and shown["rms"] == pytest.approx(30, rel=0.1)
+    assert numpy.abs(shown["background"] - 900).max() <= 15 and numpy.abs(shown["rms"] - 30).max() <= 3
     assert numpy.abs(image - shown["background"] - shown["subtracted"]).max() < 0.01
     drawn = shown["apertures"] != shown["subtracted"]
     assert 20 * len(table) < drawn.sum() < 200 * len(table)

@@ -186,23 +186,20 @@ def test_a_plane_of_a_cube(here, stars, capsys):
     assert numpy.allclose(both["FLUX_APER"], one["FLUX_APER"], rtol=0.02, atol=60)
 
 
-@pytest.mark.parametrize("kind", ["rms", "variance", "weight"])
-def test_noise_that_is_not_even(here, stars, kind):
+def test_noise_that_is_not_even(here, stars):
     rng, noise = numpy.random.default_rng(9), numpy.full((256, 256), 30.0)
     noise[:, 128:] = 90
     image = stars[0] + rng.normal(0, (noise**2 - 900) ** 0.5)
     fits.writeto("uneven.fits", image.astype("f4"))
-    fits.writeto("noise.fits", {"rms": noise, "variance": noise**2, "weight": 5 / noise**2}[kind].astype("f4"))
-    plain, found = (
-        catalogue("uneven.fits", "-o", "cat.fits", *more)
-        for more in ([], ["--weight", "noise.fits", "--weight-type", kind])
-    )
-    right = [numpy.asarray(table["X"]) > 132 for table in (plain, found)]
-    assert right[0].sum() > right[1].sum() and 8 <= right[1].sum() <= 14
-    own, apart = nearest(found, stars[1][stars[1][:, 0] < 120])
-    assert apart.max() < 0.3 and numpy.median(own["FLUXERR_ISO"] / numpy.sqrt(own["AREA"])) == pytest.approx(
-        30, rel=0.1
-    )
+    plain = catalogue("uneven.fits", "-o", "cat.fits")
+    for kind, weights in {"rms": noise, "variance": noise**2, "weight": 5 / noise**2}.items():
+        fits.writeto("noise.fits", weights.astype("f4"), overwrite=True)
+        found = catalogue("uneven.fits", "-o", "cat.fits", "--weight", "noise.fits", "--weight-type", kind)
+        right = [numpy.asarray(table["X"]) > 132 for table in (plain, found)]
+        assert right[0].sum() > right[1].sum() and 8 <= right[1].sum() <= 14
+        own, apart = nearest(found, stars[1][stars[1][:, 0] < 120])
+        assert apart.max() < 0.3
+        assert numpy.median(own["FLUXERR_ISO"] / numpy.sqrt(own["AREA"])) == pytest.approx(30, rel=0.1)
     local = catalogue("uneven.fits", "-o", "cat.fits", "--rms", "local", "--mesh", 32)
     assert (numpy.asarray(local["X"]) > 150).sum() < 16
 

@@ -1,9 +1,11 @@
 """Tiles of compressed images that are seen to be broken before they are unpacked."""
 import gzip
 
+import numpy
 import pytest
+from astropy.io import fits
 
-from maxdetect import _compressed as compressed
+from maxdetect import Mistake, _compressed as compressed, _images as images
 
 # Without the time, since all processes of the tests have to give a test the same name.
 STREAM = gzip.compress(bytes(range(200)), mtime=0)
@@ -47,3 +49,32 @@ def test_lines_of_plio_that_end_where_they_say(words):
 def test_lines_of_plio_that_do_not(words):
     with pytest.raises(ValueError, match="^a compressed tile is broken$"):
         compressed._check_plio(words)
+
+
+@pytest.fixture(scope="module")
+def dithered(tmp_path_factory):
+    """A file with a dithered image in Rice blocks."""
+    path, image = tmp_path_factory.mktemp("dithered") / "image.fits", numpy.random.default_rng(1).normal(0, 9, (20, 30))
+    fits.CompImageHDU(image.astype("f4"), compression_type="RICE_1", quantize_method=2).writeto(path)
+    assert numpy.isfinite(images.opened(path).window(slice(None))).all()
+    return path
+
+
+@pytest.mark.parametrize(
+    "card, value, text",
+    [
+        *(("ZVAL1", value, f"ZVAL1 isn't a number from 1 on: {value}") for value in (0, -32)),
+        *(
+            ("ZDITHER0", value, f"isn't a number from 1 to 10000: {value}")
+            for value in (0, 10001, -(2**31), 2**31 - 1)
+        ),
+        *((card, False, f"{card} isn't a number: False") for card in ("ZVAL1", "ZDITHER0")),
+    ],
+)
+def test_settings_that_the_decompressor_does_not_survive(dithered, tmp_path, card, value, text):
+    path = tmp_path / "image.fits"
+    with fits.open(dithered, disable_image_compression=True) as hdus:
+        hdus[1].header[card] = value
+        hdus.writeto(path)
+    with pytest.raises(Mistake, match=text):
+        images.opened(path).window(slice(None))

@@ -87,29 +87,40 @@ def plain(column):
     return numpy.ma.asarray(column).astype("f8").filled(numpy.nan)
 
 
-@pytest.mark.parametrize("form", forms.PACKED)
-@pytest.mark.parametrize(
-    "kind, low", [("u8", 2**63 - 290), ("u8", 2**64 - 900), ("i8", -(2**63) + 5), ("i8", 2**62)]
+@pytest.fixture(
+    scope="module",
+    params=[("u8", 2**63 - 290), ("u8", 2**64 - 900), ("i8", -(2**63) + 5), ("i8", 2**62)],
+    ids=lambda it: f"{it[0]}-{it[1]}",
 )
-def test_values_that_differ_by_one_far_out(tmp_path, monkeypatch, stars, form, kind, low):
-    monkeypatch.chdir(tmp_path)
-    rough = numpy.clip(stars[0][:110, :160] / 8, 0, 300).astype("i8")
+def far(request, stars, tmp_path_factory):
+    """Values from a number on and that number, the limit of saturation, and what is found in them as an array, and in a
+    file of the values less that number.
+    """
+    (kind, low), folder = request.param, tmp_path_factory.mktemp("near")
+    rough, limit = numpy.clip(stars[0][:110, :160] / 8, 0, 300).astype("i8"), float(low + 290)
     values = (rough.astype(object) + low).astype(kind)
-    zero = 2**63 if kind == "u8" else 0
+    fits.writeto(folder / "near.fits", rough)
+    words = [str(folder / "near.fits"), "-o", str(folder / "near.cat.fits"), f"--saturation={int(limit) - low}"]
+    assert cli.main(words) == 0
+    arrays = maxdetect.catalogue(values, saturation=limit)[0]
+    return values, low, limit, arrays, Table.read(folder / "near.cat.fits")
+
+
+@pytest.mark.parametrize("form", forms.PACKED)
+def test_values_that_differ_by_one_far_out(tmp_path, monkeypatch, far, form):
+    monkeypatch.chdir(tmp_path)
+    values, low, limit, arrays, near = far
+    zero = 2**63 if values.dtype.kind == "u" else 0
     stored = (values.astype(object) - zero).astype("i8")
     path = forms.written(tmp_path / "far.fits", stored, {"BZERO": zero}, form)
     assert (maxdetect.load(path) == values).all()
     plane = images.opened(path)
     assert numpy.array_equal(plane.window(slice(None)), values.astype("f8"))
-    assert (plane.window(slice(None), less=low) == rough).all()
-    fits.writeto("near.fits", rough)
-    limit = float(low + 290)
+    assert (plane.window(slice(None), less=low) == values - values.dtype.type(low)).all()
     assert cli.main([path, "-o", "far.cat.fits", f"--saturation={limit!r}"]) == 0
-    assert cli.main(["near.fits", "-o", "near.cat.fits", f"--saturation={int(limit) - low}"]) == 0
-    far, near = Table.read("far.cat.fits"), Table.read("near.cat.fits")
-    arrays = maxdetect.catalogue(values, saturation=limit)[0]
-    assert len(far) > 5
-    for found in (far, arrays):
+    table = Table.read("far.cat.fits")
+    assert len(table) > 5
+    for found in (table, arrays):
         for name in near.colnames:
             # What the program sees is rounded to whole numbers: of the same light, less another level, at times apart.
             loose = 1e-5 if near[name].dtype.kind == "f" else 2 if name in ("FLUX", "PEAK", "LEVEL", "BASE") else 0

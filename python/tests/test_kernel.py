@@ -54,6 +54,8 @@ def test_the_program_is_found(monkeypatch, tmp_path):
 
 BUILD = """#!/bin/sh
 trap 'echo ended > {folder}/ended; exit 143' TERM
+# The command waits for it by then.
+sleep 0.3
 echo begun > {folder}/begun
 while :; do sleep 0.1; done
 """

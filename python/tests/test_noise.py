@@ -56,7 +56,7 @@ def test_a_map_of_the_noise():
     image[:, 128:] *= 3
     found = maxdetect.noise_map(image, 32)
     assert found.shape == image.shape and found.dtype == "f4"
-    assert found[:, :96] == pytest.approx(1, rel=0.1) and found[:, 160:] == pytest.approx(3, rel=0.1)
+    assert numpy.abs(found[:, :96] - 1).max() <= 0.1 and numpy.abs(found[:, 160:] - 3).max() <= 0.3
 
 
 def test_undefined_pixels_do_not_count():

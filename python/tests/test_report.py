@@ -110,9 +110,9 @@ def shown(folder, page, *words):
 
 
 @pytest.mark.skipif(BROWSER is None, reason="a page is tried with chromium (Debian: chromium)")
-@pytest.mark.parametrize("count", [3, 35000])
-def test_a_click_shows_the_source(tmp_path, count):
-    image, table = scene(count, 2000, 2000)
+@pytest.mark.parametrize("count, side", [(3, 200), (35000, 2000)])
+def test_a_click_shows_the_source(tmp_path, count, side):
+    image, table = scene(count, side, side)
     page = report.page(image, table, report.Skies())
     text = shown(tmp_path, page.replace("</body>", CLICK), "--virtual-time-budget=20000", "--dump-dom")
     row = re.search(r'<div id="row">(.*?)</div>', text, re.S)[1]

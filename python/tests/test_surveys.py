@@ -165,7 +165,7 @@ def test_a_name_that_is_none(tmp_path):
         list(maxdetect.survey(kept(tmp_path / "a.db", **{"A B": b""})))
 
 
-# What another user sees, who can't write the file or its folder: how many sources there are, at so many looks.
+# What another user sees, who can't write the files or their folders: how many sources there are, at so many looks.
 LOOKS = """
 import os, sys
 sys.path.insert(0, sys.argv[1])
@@ -174,15 +174,16 @@ if os.geteuid() == 0:
     os.setgroups([])
     os.setgid(65534)
     os.setuid(65534)
-for turn in range(int(sys.argv[3])):
-    opened = maxdetect.survey(sys.argv[2])
-    print(sum(len(opened[name]) for name in opened))
+for turn in range(int(sys.argv[2])):
+    for path in sys.argv[3:]:
+        opened = maxdetect.survey(path)
+        print(sum(len(opened[name]) for name in opened))
 """
 
 
-def seen_by_another(path, turns=1):
+def seen_by_another(*paths, turns=1):
     package = pathlib.Path(maxdetect.__file__).parent.parent
-    words = [sys.executable, "-c", LOOKS, str(package), str(path), str(turns)]
+    words = [sys.executable, "-c", LOOKS, str(package), str(turns), *map(str, paths)]
     # Where coverage is measured, another user may not write what it found.
     around = {name: value for name, value in os.environ.items() if not name.startswith("COV_")}
     done = subprocess.run(words, env=around, stdout=subprocess.PIPE, stderr=subprocess.PIPE, text=True, timeout=300)
@@ -211,29 +212,39 @@ def killed_within_an_add(path):
         os.replace(f"{copy}{end}", f"{path}{end}")
 
 
-@pytest.mark.parametrize("left", ["as the program ends", "without its log", "killed", "plain"])
-def test_a_look_makes_no_file_and_needs_no_right_to(shown, table, program, left):
-    path = shown / "s.db"
-    if left == "plain":
+def left_behind(path, table, program, how):
+    """Makes a survey whose files stand as after such an end; how many sources it has."""
+    path.parent.mkdir()
+    if how == "plain":
         kept(path, A=cells(*(row(number + 1, 5) for number in range(len(table)))))
     else:
         maxdetect.add(path, "A", table, program=program)
-        os.unlink(shown / "s.db.lock")
-        assert (shown / "s.db-wal").stat().st_size == 41
-    if left == "without its log":
-        os.unlink(shown / "s.db-wal")
-    if left == "killed":
+        os.unlink(f"{path}.lock")
+        assert os.stat(f"{path}-wal").st_size == 41
+    if how == "without its log":
+        os.unlink(f"{path}-wal")
+    if how == "killed":
         killed_within_an_add(path)
-    before = {name: (shown / name).stat() for name in os.listdir(shown)}
-    os.chmod(shown, 0o555)
-    assert seen_by_another(path) == [len(table) * (2 if left == "killed" else 1)]
-    # Who can write the folder leaves as little there.
-    os.chmod(shown, 0o755)
-    assert len(maxdetect.survey(path)["A"]) == len(table)
-    after = {name: (shown / name).stat() for name in os.listdir(shown)}
-    assert {name: (it.st_size, it.st_mtime_ns) for name, it in before.items()} == {
-        name: (it.st_size, it.st_mtime_ns) for name, it in after.items()
-    }
+    return len(table) * (2 if how == "killed" else 1)
+
+
+def test_a_look_makes_no_file_and_needs_no_right_to(shown, table, program):
+    paths = [shown / how / "s.db" for how in ("as the program ends", "without its log", "killed", "plain")]
+    counts = [left_behind(path, table, program, path.parent.name) for path in paths]
+
+    def files():
+        found = {file: file.stat() for path in paths for file in path.parent.iterdir()}
+        return {file: (it.st_size, it.st_mtime_ns) for file, it in found.items()}
+
+    before = files()
+    for path in paths:
+        path.parent.chmod(0o555)
+    assert seen_by_another(*paths) == counts
+    # Who can write the folders leaves as little there.
+    for path in paths:
+        path.parent.chmod(0o755)
+        assert len(maxdetect.survey(path)["A"]) == len(table)
+    assert files() == before
 
 
 @contextlib.contextmanager
@@ -256,7 +267,7 @@ def test_who_cannot_write_the_folder_reads_beside_a_writer(shown, table, program
     maxdetect.add(path, "A", table, program=program)
     (shown / "a.cat").write_bytes(adding.survey_file(table))
     with at_work(program, path, shown / "a.cat") as done:
-        assert seen_by_another(path, 200) == [len(table)] * 200
+        assert seen_by_another(path, turns=200) == [len(table)] * 200
     assert len(done) > 5
 
 
@@ -335,7 +346,7 @@ def looking(path):
     """Within, another process reads the survey by this package, over and over."""
     package = pathlib.Path(maxdetect.__file__).parent.parent
     text = LOOKS.replace("if os.geteuid() == 0:", "print('ready', flush=True)\nif False:")
-    words = [sys.executable, "-c", text, str(package), str(path), "1000000000"]
+    words = [sys.executable, "-c", text, str(package), "1000000000", str(path)]
     with subprocess.Popen(words, stdout=subprocess.PIPE, stderr=subprocess.DEVNULL) as reading:
         try:
             assert reading.stdout.readline() == b"ready\n"

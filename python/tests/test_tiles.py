@@ -56,13 +56,14 @@ def whole_and_tiled(image, threshold, tile, **options):
     return pool.count
 
 
-@pytest.mark.parametrize("tile", [16, 32, 48])
 @pytest.mark.parametrize("connect", [4, 8])
 @pytest.mark.parametrize("mesh, flat", [(0, False), (8, False), (16, True)])
-def test_tiles_are_the_whole(tile, connect, mesh, flat):
+def test_tiles_are_the_whole(connect, mesh, flat):
     image, options = rough((100, 75)), dict(min_area=3, connect=connect, mesh=mesh, flat=flat)
-    whole_and_tiled(image, 120, tile, **options)
-    are_the_same(maxdetect.detect(image, 120, **options), maxdetect.detect_tiles(image, 120, **options))
+    whole = maxdetect.detect(image, 120, **options)
+    for tile in (16, 32, 48):
+        are_the_same(whole, maxdetect.detect_tiles(image, 120, tile, InTurn(), **options))
+    are_the_same(whole, maxdetect.detect_tiles(image, 120, **options))
 
 
 @pytest.mark.parametrize("mesh, tile", [(0, 32), (1, 40), (2, 32), (4, 16), (8, 24)])
