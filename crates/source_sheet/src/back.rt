@@ -313,27 +313,28 @@ pub struct SheetDetection {
     pub cells: Vec<i64>,
 }
 
-/// The sources of the plane for which a sheet was laid out, from the sheet's component tree. So many workers fill the sheet's map.
+/// The sources of the plane for which a sheet was laid out, from the sheet's component tree, which is gone when this returns. So many workers
+/// fill the sheet's map.
 pub fn sources_of_sheet<R: Threads + Sync>(
     rt: &R,
     alloc: Global,
     sheet: &Sheet,
-    tree: &Tree,
+    tree: Tree,
     choice: &Choice,
     workers: u32,
 ) -> Result<SheetDetection, OutOfMemory>
-    requires laid_out { IsTreeOfSheet choice.now sheet.now tree.now }
+    requires laid_out { IsTreeOfSheet choice.now sheet.now tree }
     requires contrast { choice.now.contrast ≤ 1000 }
     ensures one_each { IfOk result (λ found. length found.map.items ≡ sheet.now.whole.width * sheet.now.whole.height) }
     ensures small { IfOk result (λ found. All (λ n. n ≤ 2147483647) found.map.items) }
     ensures table { IfOk result (λ found. IsTable catalogue_columns found.cells.items) }
     ensures map { IfOk result (λ found. (plane : Raster) (connect : Connect) → IsLaidOut plane connect choice.now sheet.now
-        → tree.now ≡ tree_of sheet.now.plane connect → found.map.items ≡ segmentation plane connect choice.now) }
+        → tree ≡ tree_of sheet.now.plane connect → found.map.items ≡ segmentation plane connect choice.now) }
     ensures cells { IfOk result (λ found. (plane : Raster) (connect : Connect) → IsLaidOut plane connect choice.now sheet.now
-        → tree.now ≡ tree_of sheet.now.plane connect → found.cells.items ≡ flat_map cells_of (catalogue plane connect choice.now)) }
+        → tree ≡ tree_of sheet.now.plane connect → found.cells.items ≡ flat_map cells_of (catalogue plane connect choice.now)) }
 {
     laws_of_sheets();
-    let listed = list_sources(alloc, sheet, tree, choice)?;
+    let listed = list_sources(alloc, sheet, &tree, choice)?;
     let map = map_of_sheet(rt, alloc, sheet, tree, &listed.nodes, workers)?;
     Ok(SheetDetection {
         map,

@@ -1,5 +1,7 @@
 //! Where the groups of a plane stand on its sheet: each in a window of its own, the windows on shelves, the highest ones
-//! first. What is laid out is checked afterwards, so that nothing is said here about where it stands.
+//! first. A window brings the low pixels beside its group with it, so that the next one may touch it; where the plane ends
+//! none are beside, and pixels that stay undefined part it from others. What is laid out is checked afterwards, so that
+//! nothing is said here about where it stands.
 
 ghost use Rattle.std.specs.Prelude.{◌*◌, ◌≤◌, IfOk, IfSome};
 
@@ -35,7 +37,16 @@ struct Waiting {
     group: usize,
 }
 
-// The shelf that is being filled: where the next window stands on it, and how high the highest one is.
+// The seat of a window on a shelf: its columns and rows, with those of a frame around the window that stays undefined, if it
+// needs one.
+#[derive(Clone, Copy)]
+struct Seat {
+    width: u32,
+    height: u32,
+    frame: u32,
+}
+
+// The shelf that is being filled: where the next seat stands on it, and how high the highest one is.
 #[derive(Clone, Copy)]
 struct Shelf {
     left: u32,
@@ -44,25 +55,41 @@ struct Shelf {
 }
 
 impl Shelf {
-    // This shelf, or the next one where a window of this width has no room on this one.
+    // This shelf, or the next one where a seat of this width has no room on this one.
     fn with_room(self, width: u32, columns: u32) -> Shelf {
         if self.left == 0 || self.left.saturating_add(columns) <= width {
             return self;
         }
         Shelf {
             left: 0,
-            top: self.top.saturating_add(self.height).saturating_add(1),
+            top: self.top.saturating_add(self.height),
             height: 0,
         }
     }
 
-    // The shelf behind a window that was put on it, and a column that stays undefined.
-    fn behind(self, window: Shape) -> Shelf {
+    // The shelf behind a seat that was put on it.
+    fn behind(self, seat: Seat) -> Shelf {
         Shelf {
-            left: self.left.saturating_add(window.width).saturating_add(1),
+            left: self.left.saturating_add(seat.width),
             top: self.top,
-            height: self.height.max(window.height),
+            height: self.height.max(seat.height),
         }
+    }
+}
+
+// The seat of a window: with a frame where the window reaches an edge of the plane, whose shape is `whole`.
+fn seat_of(whole: Shape, place: &Place) -> Seat {
+    let right = place.left.saturating_add(place.shape.width);
+    let bottom = place.top.saturating_add(place.shape.height);
+    let is_at_edge = place.left == 0
+        || place.top == 0
+        || right >= whole.width
+        || bottom >= whole.height;
+    let frame = u32::from(is_at_edge);
+    Seat {
+        width: place.shape.width.saturating_add(2 * frame),
+        height: place.shape.height.saturating_add(2 * frame),
+        frame,
     }
 }
 
@@ -79,9 +106,9 @@ pub(crate) fn lay_groups(
     let Some(mut places) = windows_of(alloc, whole, groups)? else {
         return Ok(None);
     };
-    let width = sheet_width(&places);
-    let order = by_height(alloc, &places)?;
-    let height = put_on_shelves(width, &order, &mut places);
+    let width = sheet_width(whole, &places);
+    let order = by_height(alloc, whole, &places)?;
+    let height = put_on_shelves(whole, width, &order, &mut places);
     match sheet_shape(whole, width, height) {
         Some(shape) => Ok(Some(Layout { shape, places })),
         None => Ok(None),
@@ -144,28 +171,24 @@ fn window_around(whole: Shape, extent: Extent) -> Option<Place> {
     })
 }
 
-// The width of the sheet: about that of a square with the area of all windows, and no less than that of the widest.
-fn sheet_width(places: &[Place]) -> u32 {
+// The width of the sheet: about that of a square with the area of all seats, and no less than that of the widest.
+fn sheet_width(whole: Shape, places: &[Place]) -> u32 {
     let mut widest = 1;
     let mut area: u64 = 0;
     for place in places {
-        widest = place.shape.width.max(widest);
-        area = area.saturating_add(area_with_gap(place.shape));
+        let seat = seat_of(whole, place);
+        widest = seat.width.max(widest);
+        area = area.saturating_add(seat.width as u64 * seat.height as u64);
     }
     let side = area.isqrt().min(LONGEST_SIDE as u64) as u32;
     side.max(widest)
 }
 
-// The pixels of a window, with the column and the row behind it.
-fn area_with_gap(window: Shape) -> u64 {
-    (window.width as u64 + 1) * (window.height as u64 + 1)
-}
-
-// The groups by the heights of their windows, the highest ones first.
-fn by_height(alloc: Global, places: &[Place]) -> Result<Vec<Waiting>, OutOfMemory> {
+// The groups by the heights of their seats, the highest ones first.
+fn by_height(alloc: Global, whole: Shape, places: &[Place]) -> Result<Vec<Waiting>, OutOfMemory> {
     let mut order = Vec::with_capacity(alloc, places.len())?;
     for (group, place) in places.iter().enumerate() {
-        let height = place.shape.height;
+        let height = seat_of(whole, place).height;
         order.push(Waiting { height, group })?;
     }
     order.sort_unstable_by_key(|waiting| (
@@ -176,7 +199,7 @@ fn by_height(alloc: Global, places: &[Place]) -> Result<Vec<Waiting>, OutOfMemor
 }
 
 // Gives each window its place on a shelf. The result is the height of all shelves.
-fn put_on_shelves(width: u32, order: &[Waiting], places: &mut [Place]) -> u32 {
+fn put_on_shelves(whole: Shape, width: u32, order: &[Waiting], places: &mut [Place]) -> u32 {
     let mut shelf = Shelf {
         left: 0,
         top: 0,
@@ -184,10 +207,11 @@ fn put_on_shelves(width: u32, order: &[Waiting], places: &mut [Place]) -> u32 {
     };
     for waiting in order {
         if let Some(place) = places.get_mut(waiting.group) {
-            shelf = shelf.with_room(width, place.shape.width);
-            place.to_left = shelf.left;
-            place.to_top = shelf.top;
-            shelf = shelf.behind(place.shape);
+            let seat = seat_of(whole, place);
+            shelf = shelf.with_room(width, seat.width);
+            place.to_left = shelf.left.saturating_add(seat.frame);
+            place.to_top = shelf.top.saturating_add(seat.frame);
+            shelf = shelf.behind(seat);
         }
     }
     shelf.top.saturating_add(shelf.height)

@@ -12,10 +12,10 @@ const CHOICE: Choice = Choice {
     contrast: 0,
 };
 
-// A plane of five columns and four rows, 0 but for these pixels.
+// A plane of eight columns and rows, 0 but for these pixels.
 fn plane_with(alloc: Global, high: &[(usize, i64)]) -> Result<Plane, Fail> {
-    let shape = Shape::of(5, 4).ok_or("a shape")?;
-    let mut values = vec![in alloc; Some(0i64); 20]?;
+    let shape = Shape::of(8, 8).ok_or("a shape")?;
+    let mut values = vec![in alloc; Some(0i64); 64]?;
     for (p, value) in high {
         if let Some(pixel) = values.get_mut(*p) {
             *pixel = Some(*value);
@@ -24,13 +24,13 @@ fn plane_with(alloc: Global, high: &[(usize, i64)]) -> Result<Plane, Fail> {
     Ok(Plane::of(alloc, shape, &values)?.ok_or("a plane")?)
 }
 
-// The pair in the last row stands in a window of four columns and two rows, and the pixel in the first row has too few around it.
+// The pair in the third row stands in a window of four columns and three rows, and the pixel in the first row has too few around it.
 #[test]
 fn a_group_stands_on_the_sheet(rt: HostRuntime) -> Result<(), Fail> {
     let alloc = rt.alloc();
-    let plane = plane_with(alloc, &[(0, 6), (17, 7), (18, 9)])?;
+    let plane = plane_with(alloc, &[(0, 6), (19, 7), (20, 9)])?;
     let sheet = lay_out(alloc, &plane, Connect::Four, &CHOICE)?.ok_or("a sheet")?;
-    assert_eq!(rt; sheet.plane.shape().pixels(), 8);
+    assert_eq!(rt; sheet.plane.shape().pixels(), 12);
     assert!(rt; sheet.whole == plane.shape() && sheet.places.len() == 1);
     Ok(())
 }
@@ -39,9 +39,30 @@ fn a_group_stands_on_the_sheet(rt: HostRuntime) -> Result<(), Fail> {
 #[test]
 fn a_group_stands_with_its_corners(rt: HostRuntime) -> Result<(), Fail> {
     let alloc = rt.alloc();
-    let plane = plane_with(alloc, &[(0, 6), (17, 7), (18, 9)])?;
+    let plane = plane_with(alloc, &[(0, 6), (19, 7), (20, 9)])?;
     let sheet = lay_out(alloc, &plane, Connect::Eight, &CHOICE)?.ok_or("a sheet")?;
-    assert_eq!(rt; sheet.plane.shape().pixels(), 8);
+    assert_eq!(rt; sheet.plane.shape().pixels(), 12);
+    Ok(())
+}
+
+// The windows of two pairs touch each other on the sheet, since each has the low pixels around its pair.
+#[test]
+fn windows_touch_on_the_sheet(rt: HostRuntime) -> Result<(), Fail> {
+    let alloc = rt.alloc();
+    let plane = plane_with(alloc, &[(19, 7), (20, 9), (43, 6), (44, 6)])?;
+    let sheet = lay_out(alloc, &plane, Connect::Eight, &CHOICE)?.ok_or("a sheet")?;
+    assert_eq!(rt; sheet.places.len(), 2);
+    assert_eq!(rt; sheet.plane.shape().pixels(), 24);
+    Ok(())
+}
+
+// A pair in the last row has no low pixels below, so that a frame goes around its window of four columns and two rows.
+#[test]
+fn a_window_at_an_edge_has_a_frame(rt: HostRuntime) -> Result<(), Fail> {
+    let alloc = rt.alloc();
+    let plane = plane_with(alloc, &[(61, 7), (62, 9)])?;
+    let sheet = lay_out(alloc, &plane, Connect::Eight, &CHOICE)?.ok_or("a sheet")?;
+    assert_eq!(rt; sheet.plane.shape().pixels(), 24);
     Ok(())
 }
 
@@ -59,15 +80,17 @@ fn a_plane_of_high_pixels_has_no_sheet(rt: HostRuntime) -> Result<(), Fail> {
 #[test]
 fn a_source_is_taken_back(rt: HostRuntime) -> Result<(), Fail> {
     let alloc = rt.alloc();
-    let plane = plane_with(alloc, &[(0, 6), (17, 7), (18, 9)])?;
+    let plane = plane_with(alloc, &[(0, 6), (61, 7), (62, 9)])?;
     let Some(sheet) = lay_out(alloc, &plane, Connect::Four, &CHOICE)? else {
         return Err(Fail::from("a sheet"));
     };
     let tree = plain_tree(alloc, &sheet.plane, Connect::Four)?;
-    let found = sources_of_sheet(&rt, alloc, &sheet, &tree, &CHOICE, 2)?;
-    let row = [1, 7, 0, 2, 16, 9, 3, 4, 4, 4, 3, 4, 3562, 4000, 250, 0, 0];
+    let found = sources_of_sheet(&rt, alloc, &sheet, tree, &CHOICE, 2)?;
+    let row = [1, 7, 0, 2, 16, 9, 6, 7, 8, 8, 6, 8, 6562, 8000, 250, 0, 0];
     assert!(rt; found.cells.as_slice() == row.as_slice());
-    let map = [0, 0, 0, 0, 0, 0, 0, 0, 0, 0, 0, 0, 0, 0, 0, 0, 0, 1, 1, 0];
+    let mut map = [0; 64];
+    map[61] = 1;
+    map[62] = 1;
     assert!(rt; found.map.as_slice() == map.as_slice());
     Ok(())
 }

@@ -135,16 +135,16 @@ pub fn detect_on_sheet<R: Threads + Sync>(
     rt: &R,
     alloc: Global,
     sheet: &Sheet,
-    tree: &Tree,
+    tree: Tree,
     choice: &Choice,
     workers: u32,
 ) -> Result<Detection, OutOfMemory>
-    requires laid_out { IsTreeOfSheet choice.now sheet.now tree.now }
+    requires laid_out { IsTreeOfSheet choice.now sheet.now tree }
     requires contrast { choice.now.contrast ≤ 1000 }
     ensures writable { IfOk result
         (λ found. IsDetection found.shape found.map.items found.cells.items) }
     ensures bytes { IfOk result (λ found. (plane : Raster) (connect : Connect)
-        → IsLaidOut plane connect choice.now sheet.now → tree.now ≡ tree_of sheet.now.plane connect
+        → IsLaidOut plane connect choice.now sheet.now → tree ≡ tree_of sheet.now.plane connect
         → hdus found.shape found.map.items found.cells.items ≡
         detected_hdus plane connect choice.now) }
 {

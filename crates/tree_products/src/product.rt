@@ -96,7 +96,7 @@ pub fn make_of<R: Threads + Sync>(
 {
     match on {
         Ground::Whole(plane) => make_of_plane(rt, alloc, job, workers, plane, tree),
-        Ground::Sheet(sheet) => make_of_sheet(rt, alloc, job, workers, &sheet, &tree),
+        Ground::Sheet(sheet) => make_of_sheet(rt, alloc, job, workers, &sheet, tree),
     }
 }
 
@@ -136,13 +136,13 @@ fn make_of_sheet<R: Threads + Sync>(
     job: Job,
     workers: u32,
     sheet: &Sheet,
-    tree: &Tree,
+    tree: Tree,
 ) -> Result<Product, OutOfMemory>
-    requires of_sheet { IsTreeOfJobsSheet job sheet.now tree.now }
+    requires of_sheet { IsTreeOfJobsSheet job sheet.now tree }
     requires limits { HasJobLimits job }
     ensures writable { IfOk result (λ product. IsWritable product) }
     ensures bytes { IfOk result (λ product. (plane : Raster) (connect : Connect) → IsSheetFor job connect plane sheet.now
-        → tree.now ≡ tree_of sheet.now.plane connect → bytes_of product ≡ output_of_job job connect plane) }
+        → tree ≡ tree_of sheet.now.plane connect → bytes_of product ≡ output_of_job job connect plane) }
 {
     match job {
         Job::Detect { choice } => Ok(Product::Sources(detect_on_sheet(

@@ -7,7 +7,7 @@ use Rattle.source_sheet.proofs.Showing.{all_placed, map_is, cells_are}
 use Rattle.source_sheet.proofs.back.sources_of_sheet.Goals as goal
 
 pub map_of_sheet-requires-clause-disjoint : goal.map_of_sheet-requires-clause-disjoint
-map_of_sheet-requires-clause-disjoint g c = λ κs w. subst (AreDisjointNodes c.args.tree.now) (sym c.deref.ensures.value) c.in_ok-listed.ensures.nodes
+map_of_sheet-requires-clause-disjoint g c = λ κs w. subst (AreDisjointNodes c.args.tree) (sym c.deref.ensures.value) c.in_ok-listed.ensures.nodes
 
 pub map_of_sheet-requires-clause-placed : goal.map_of_sheet-requires-clause-placed
 map_of_sheet-requires-clause-placed g c = λ κs w.
@@ -15,7 +15,7 @@ map_of_sheet-requires-clause-placed g c = λ κs w.
 
 pub map_of_sheet-requires-clause-of_sheet : goal.map_of_sheet-requires-clause-of_sheet
 map_of_sheet-requires-clause-of_sheet g c = λ κs w.
-    let t = c.requires.laid_out in tree-shape c.args.sheet.now.plane t.connect c.args.tree.now t.tree_is
+    let t = c.requires.laid_out in tree-shape c.args.sheet.now.plane t.connect c.args.tree t.tree_is
 
 pub returns-clause-small : goal.returns-clause-small
 returns-clause-small g c = λ k d within. subst (λ (n : ℕ). n ≤ 2147483647) (get_or_default c.in_ok-map.map.items k 0 d within) (c.in_ok-map.ensures.few k)
@@ -23,8 +23,8 @@ returns-clause-small g c = λ k d within. subst (λ (n : ℕ). n ≤ 2147483647)
 pub returns-clause-map : goal.returns-clause-map
 returns-clause-map g c = λ plane connect l is.
     map_is plane connect c.args.choice.now c.args.sheet.now l c.laws_of_sheets.ensures c.in_ok-listed.listed.nodes.items c.in_ok-listed.listed.cells.items
-    (c.in_ok-listed.ensures.listed plane connect l is) c.args.tree.now is c.in_ok-map.map.items
-    (subst (λ (xs : List ℕ). ShowsNodes c.args.tree.now c.args.sheet.now xs c.in_ok-map.map.items) c.deref.ensures.value c.in_ok-map.ensures.shows) c.in_ok-map.ensures.one_each
+    (c.in_ok-listed.ensures.listed plane connect l is) c.args.tree is c.in_ok-map.map.items
+    (subst (λ (xs : List ℕ). ShowsNodes c.args.tree c.args.sheet.now xs c.in_ok-map.map.items) c.deref.ensures.value c.in_ok-map.ensures.shows) c.in_ok-map.ensures.one_each
 
 pub returns-clause-cells : goal.returns-clause-cells
 returns-clause-cells g c = λ plane connect l is.
