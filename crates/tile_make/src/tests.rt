@@ -152,3 +152,52 @@ fn a_core_reaches_out_of_its_window(rt: HostRuntime) -> Result<(), Fail> {
     assert!(rt; matches!(tile, Err(TileStop::Misplaced)));
     Ok(())
 }
+
+// Of the second row of an image, in which there are stars in columns 4 and 7, counted from 0: what a window of the columns
+// from 2 on tells for those from 3 to 6.
+#[test]
+fn a_row_is_moved_to_the_image(rt: HostRuntime) -> Result<(), Fail> {
+    let alloc = rt.alloc();
+    let core = Frame {
+        left: 3,
+        top: 1,
+        shape: Shape::of(4, 1).ok_or("a shape")?,
+    };
+    let place = TilePlace {
+        whole: Shape::of(8, 2).ok_or("a shape")?,
+        left: 2,
+        top: 1,
+        core,
+    };
+    let image = row_of(alloc, &[0, 0, 5, 0, 0, 5])?;
+    let Ok(order) = read_order(&["tree"]) else {
+        return Err(Fail::from("an order"));
+    };
+    let Ok(tile) = make_tile(&rt, alloc, image, &order, None, &CHOICE, &place, &OpenGate) else {
+        return Err(Fail::from("a tile"));
+    };
+    let centres = tile.rows.iter().map(|row| (row.xcen, row.ycen));
+    assert!(rt; centres.eq([(5000, 2000)]));
+    Ok(())
+}
+
+// The background is smooth, and each pixel a cell: in the window's first column it depends on a pixel that the window doesn't
+// show.
+#[test]
+fn a_core_with_the_windows_first_column_is_open(rt: HostRuntime) -> Result<(), Fail> {
+    let words = ["tree", "--mesh", "1"];
+    let tile = tile_by(
+        &rt,
+        rt.alloc(),
+        2,
+        &[1, 2, 1, 2, 1, 2],
+        columns(2, 4)?,
+        &words,
+        None,
+    )?;
+    let Ok(tile) = tile else {
+        return Err(Fail::from("a tile"));
+    };
+    assert!(rt; !tile.open.is_empty());
+    Ok(())
+}
