@@ -69,6 +69,8 @@ HILLS = image(5, 1, [1, 6, 2, 5, 1])
 SLOPES = image(5, 1, [0, 1, 3, 2, 0])
 SQUARE = image(3, 3, [5, 0, 6, 5, 2, 6, 3, 3, 3])
 CORNER = image(2, 2, [1, 1, 1, 0])
+# Few pixels are high, so that they are copied onto a sheet.
+PAIR = image(6, 6, [0] * 14 + [7, 9] + [0] * 20)
 BANDS = HILLS + bytes(-len(HILLS) % 2880) + image(5, 1, [10, 20, 30, 40, 7], extension=True)
 FIVE_NODES = is_lines("0 0 1 - 9", "1 2 4 0 8", "2 3 6 1 7", "3 5 0 2 2", "4 6 2 2 2")
 TWO_SOURCES = is_found(
@@ -77,7 +79,7 @@ TWO_SOURCES = is_found(
     (2, 5, 2, 1, 3, 5, 4, 4, 1, 1, 4, 1, 4000, 1000, 0, 0, 0),
 )
 ONE_SOURCE = is_found((0, 1, 1, 1, 0), (1, 2, 1, 3, 10, 6, 2, 4, 1, 1, 2, 1, 2900, 1000, 666, 0, 0))
-# The words of each run, its input, and what its output has to be. What the two last write is tested elsewhere.
+# The words of each run, its input, and what its output has to be. What the three last write is tested elsewhere.
 RUNS = [
     *(
         (f"tree --strips {strips} --workers {workers}", SQUARE, FIVE_NODES)
@@ -93,6 +95,7 @@ RUNS = [
     ("detect --threshold 2 --contrast 300", HILLS, TWO_SOURCES),
     ("detect --threshold 2 --contrast 301", HILLS, ONE_SOURCE),
     ("detect --threshold 2 --contrast 1000", HILLS, ONE_SOURCE),
+    ("detect --threshold 5 --min-area 2", PAIR, None),
     ("filter --rule min --mesh 2", HILLS, None),
     ("measure --values 1 --threshold 2 --contrast 300", BANDS, None),
 ]
