@@ -95,10 +95,13 @@ def seen(field: Field, found: sky.Sky, smooth: float, rows: slice, columns: slic
         begin = max(0, first - more)
         wide.append(slice(begin, min(side, last + more)))
         inner.append(slice(first - begin, last - begin))
-    level = found.background(*wide) + found.zero
+    level = found.background(*wide)
+    level += found.zero
     image = scaling.deviations(field.image(*wide), level, noise_of(field, found, *wide))
-    image[~numpy.isfinite(image)] = numpy.nan
-    image = smoothing.smoothed(image, smooth) if smooth else image
+    if smooth:
+        image = smoothing.smoothed(image, smooth)
+    else:
+        image[~numpy.isfinite(image)] = numpy.nan
     return numpy.ascontiguousarray(image[tuple(inner)])
 
 

@@ -3,7 +3,6 @@ import argparse
 import concurrent.futures
 import contextlib
 import dataclasses
-import importlib
 import math
 import shlex
 import sys
@@ -111,8 +110,6 @@ def _tiles_pool(given: argparse.Namespace, good: List[Task]) -> Optional[Context
     # A process would unpack a compressed image by itself, and be sent the pixels that cosmic rays have hit.
     if given.cosmic_rays or not all(plane.mapped for task in good for plane in task.planes):
         return concurrent.futures.ThreadPoolExecutor(given.workers)
-    # What tiles want is loaded once: the workers share it.
-    importlib.import_module("scipy.ndimage")
     return pools.workers(given.workers)
 
 

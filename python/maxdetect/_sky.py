@@ -21,7 +21,7 @@ SAMPLED = 32
 AT_ONCE = 8
 # The part of a cell that has to be left for its level to count.
 ENOUGH = 0.1
-# Up to so many cells, times the sum of the sides of their grid, those that aren't known are filled here.
+# Those cells that aren't known are filled here where that takes no more than so many looks at a cell.
 SMALL = 2**19
 
 # The noise that 32-bit floating-point numbers have room for.
@@ -82,24 +82,26 @@ def filled(grid: numpy.ndarray, known: numpy.ndarray) -> numpy.ndarray:
     """The grid with each number that isn't known replaced by the nearest one that is."""
     if known.all() or not known.any():
         return grid
-    if known.size * sum(known.shape) <= SMALL:
-        return grid[_nearest(known)]
+    rows, columns = numpy.nonzero(~known)
+    if len(numpy.unique(rows)) * known.size + len(rows) * known.shape[1] <= SMALL:
+        made = grid.copy()
+        made[rows, columns] = grid[_nearest(known, rows, columns)]
+        return made
     from scipy import ndimage
 
     return grid[tuple(ndimage.distance_transform_edt(~known, return_distances=False, return_indices=True))]
 
 
-def _nearest(known: numpy.ndarray) -> Tuple[numpy.ndarray, numpy.ndarray]:
-    """For each place row and column of the nearest one that is known, as SciPy has them: of several in the first column
-    that has one, and there the first. SciPy takes longer to load than a small image's sky.
+def _nearest(known: numpy.ndarray, rows: numpy.ndarray, columns: numpy.ndarray) -> Tuple[numpy.ndarray, numpy.ndarray]:
+    """For each of some places row and column of the nearest one that is known, as SciPy has them: of several in the
+    first column that has one, and there the first. SciPy takes longer to load than an image's sky.
     """
-    rows, columns = (numpy.arange(side) for side in known.shape)
+    own, line = numpy.unique(rows, return_inverse=True)
     unknown = numpy.where(known, 0, 2 * sum(known.shape))
-    down = numpy.abs(rows[:, None] - rows)[:, :, None] + unknown
-    row = down.argmin(axis=1)
-    down = numpy.take_along_axis(down, row[:, None], axis=1)
-    column = (down**2 + ((columns[:, None] - columns) ** 2)[None]).argmin(axis=2)
-    return numpy.take_along_axis(row, column, axis=1), column
+    down = numpy.abs(own[:, None] - numpy.arange(len(known)))[:, :, None] + unknown
+    row, down = down.argmin(axis=1), down.min(axis=1)
+    column = (down[line] ** 2 + (columns[:, None] - numpy.arange(known.shape[1])) ** 2).argmin(axis=1)
+    return row[line, column], column
 
 
 def _along(grid: numpy.ndarray, mesh: int, places: slice, dtype: str) -> numpy.ndarray:

@@ -15,8 +15,6 @@ WIDTH, REACH = 2 * math.sqrt(2 * math.log(2)), 4.0
 CELL, LEAST_CELL, MOST_BANDS = 6, 16, 24
 # How many pixels are summed up at a time.
 CACHED = 2**16
-# From this many columns on SciPy sums along rows: it is quicker, and takes as long to load as a small image to smooth.
-WIDE = 1024
 # Up to this part of an image its weights are summed up place by place.
 FEW = 0.1
 
@@ -41,18 +39,31 @@ def smoothed(image: numpy.ndarray, width: float) -> numpy.ndarray:
     weights = numpy.exp(-0.5 * (numpy.arange(-reach, reach + 1) * WIDTH / width) ** 2)
     finite = numpy.isfinite(image)
     defined = bool(finite.all())
-    sums = _along_both(image if defined else numpy.where(finite, image, numpy.float32(0)), weights)
+    total = _along_both(image if defined else numpy.where(finite, image, numpy.float32(0)), weights)
+    beside = None if defined else _beside(finite, reach)
+    near = None if beside is None else total.ravel()[beside]
     down, across = (numpy.sqrt(_along(numpy.ones((1, side)), weights**2)[0]).astype("f4") for side in image.shape)
-    total = sums / down[:, None]
+    total /= down[:, None]
     total /= across[None, :]
-    if defined:
+    if beside is None:
         return total
     # Only beside undefined pixels, so that all others have the same value in every window to the last digit.
-    places = numpy.flatnonzero(sky.grown(~finite, reach))
     with numpy.errstate(divide="ignore", invalid="ignore"):
-        total.ravel()[places] = sums.ravel()[places] / numpy.sqrt(_weights_at(places, finite, weights**2))
-    total[~finite] = numpy.nan
+        total.ravel()[beside] = near / numpy.sqrt(_weights_at(beside, finite, weights**2))
+    numpy.copyto(total, numpy.nan, where=~finite)
     return total
+
+
+def _beside(finite: numpy.ndarray, reach: int) -> numpy.ndarray:
+    """The places in the flat image of all pixels within reach of those that are not finite, in order."""
+    (height, width), undefined = finite.shape, numpy.flatnonzero(~finite)
+    if len(undefined) * (2 * reach + 1) ** 2 > FEW * finite.size:
+        return numpy.flatnonzero(sky.grown(~finite, reach))
+    steps, near = numpy.arange(-reach, reach + 1), numpy.zeros(finite.size, dtype=bool)
+    rows, columns = (it[:, None] + steps for it in numpy.divmod(undefined, width))
+    inside = ((rows >= 0) & (rows < height))[:, :, None] & ((columns >= 0) & (columns < width))[:, None, :]
+    near[(rows[:, :, None] * width + columns[:, None, :])[inside]] = True
+    return numpy.flatnonzero(near)
 
 
 def _weights_at(places: numpy.ndarray, finite: numpy.ndarray, weights: numpy.ndarray) -> numpy.ndarray:
@@ -63,35 +74,35 @@ def _weights_at(places: numpy.ndarray, finite: numpy.ndarray, weights: numpy.nda
         return _along_both(finite.astype("f4"), weights).ravel()[places]
     (height, width), reach = finite.shape, len(weights) // 2
     # Down a column without an undefined pixel near a row they are the same as of all such columns.
-    down = numpy.zeros((height, width + 2 * reach), dtype="f4")
+    down = numpy.empty((height, width + 2 * reach), dtype="f4")
+    down[:, :reach] = down[:, reach + width :] = 0
     down[:, reach : reach + width] = _down(numpy.ones((height, 1), dtype="f4"), weights)
-    rows, columns = numpy.nonzero(~finite)
+    rows, columns = numpy.divmod(numpy.flatnonzero(~finite), width)
     steps = numpy.arange(-reach, reach + 1)
     at, of = (it.ravel() for it in numpy.broadcast_arrays(rows[:, None] + steps, columns[:, None]))
     at, of = (it[(at >= 0) & (at < height)] for it in (at, of))
-    column = numpy.zeros((len(weights), len(at)), dtype="f4")
-    for step in steps:
-        seen = numpy.clip(at + step, 0, height - 1)
-        column[step + reach] = finite[seen, of] & (seen == at + step)
-    down[at, reach + of] = _down(column, weights)[reach]
-    rows = places // width
-    flat, middle = down.ravel(), places + reach * (2 * rows + 1)
-    sums = flat[middle].astype("f8") * weights[reach]
+    seen = at + steps[:, None]
+    there = (seen >= 0) & (seen < height)
+    column = (there & finite[numpy.where(there, seen, 0), of]).astype("f4")
+    down[at, reach + of] = _summed(column, weights.astype("f4"))
+    around = down.ravel()[places + reach * (2 * (places // width) + 1) + steps[:, None]].astype("f8")
+    return _summed(around, weights).astype("f4")
+
+
+def _summed(rows: numpy.ndarray, weights: numpy.ndarray) -> numpy.ndarray:
+    """The sums down the columns of as many rows as there are weights, which are alike on both sides, in the order of
+    `_along` and `_down`.
+    """
+    reach = len(weights) // 2
+    sums = rows[reach] * weights[reach]
     for step in range(reach):
-        pair = flat[middle - (reach - step)].astype("f8")
-        pair += flat[middle + (reach - step)]
-        pair *= weights[step]
-        sums += pair
-    return sums.astype("f4")
+        sums += (rows[step] + rows[-step - 1]) * weights[step]
+    return sums
 
 
 def _along_both(image: numpy.ndarray, weights: numpy.ndarray) -> numpy.ndarray:
     """The sums over the neighbours, weighted along rows and columns; beyond the edge is nothing."""
     image = _down(image, weights)
-    if image.shape[1] > WIDE:
-        from scipy import ndimage
-
-        return ndimage.correlate1d(image, weights, 1, output="f4", mode="constant")
     band = max(1, CACHED // 4 // image.shape[1])
     for top in range(0, len(image), band):
         image[top : top + band] = _along(image[top : top + band], weights)
@@ -99,19 +110,22 @@ def _along_both(image: numpy.ndarray, weights: numpy.ndarray) -> numpy.ndarray:
 
 
 def _along(rows: numpy.ndarray, weights: numpy.ndarray) -> numpy.ndarray:
-    """The sums along rows in 64 bits, by weights that are alike on both sides, in SciPy's order: the neighbours that
-    lie furthest off come first.
+    """The sums along rows in 64 bits, by weights that are alike on both sides, in the order of SciPy's `correlate1d`:
+    the neighbours that lie furthest off come first. It takes no longer, since the rows stand in one line, with zeros
+    between them; but SciPy takes long to load.
     """
-    reach, width = len(weights) // 2, rows.shape[1]
-    padded = numpy.zeros((len(rows), width + 2 * reach))
-    padded[:, reach : reach + width] = rows
-    sums, pair = padded[:, reach : reach + width] * weights[reach], numpy.empty(rows.shape)
+    reach, (height, width) = len(weights) // 2, rows.shape
+    wide = width + reach
+    line, count = numpy.zeros(height * wide + reach), height * wide - reach
+    line[reach:].reshape(height, wide)[:, :width] = rows
+    sums, pair = numpy.empty(height * wide), numpy.empty(count)
+    own = numpy.multiply(line[reach : reach + count], weights[reach], out=sums[:count])
     for step in range(reach):
         last = 2 * reach - step
-        numpy.add(padded[:, step : step + width], padded[:, last : last + width], out=pair)
+        numpy.add(line[step : step + count], line[last : last + count], out=pair)
         pair *= weights[step]
-        sums += pair
-    return sums
+        own += pair
+    return sums.reshape(height, wide)[:, :width]
 
 
 def _down(image: numpy.ndarray, weights: numpy.ndarray) -> numpy.ndarray:

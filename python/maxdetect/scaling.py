@@ -82,7 +82,10 @@ def whole_numbers(scaled: numpy.ndarray) -> numpy.ma.MaskedArray:
     some = undefined.any()
     if some:
         scaled[undefined] = 0
-    numpy.clip(numpy.rint(scaled, out=scaled), -GREATEST, GREATEST, out=scaled)
+    numpy.rint(scaled, out=scaled)
+    # That of all is told much sooner than each is cut.
+    if scaled.size and max(-scaled.min(), scaled.max()) > GREATEST:
+        numpy.clip(scaled, -GREATEST, GREATEST, out=scaled)
     return numpy.ma.MaskedArray(scaled.astype("i4"), mask=undefined if some else numpy.ma.nomask)
 
 

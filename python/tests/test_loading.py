@@ -71,7 +71,9 @@ def test_the_nearest_that_is_known_is_that_of_scipy():
         known = rng.random(grid.shape) < rng.choice([0.05, 0.3, 0.7])
         known.flat[rng.integers(known.size)] = True
         wanted = ndimage.distance_transform_edt(~known, return_distances=False, return_indices=True)
-        assert (numpy.array(sky._nearest(known)) == wanted).all()
+        rows, columns = numpy.nonzero(~known)
+        assert (numpy.array(sky._nearest(known, rows, columns)) == wanted[:, rows, columns]).all()
+        assert (sky.filled(grid, known) == grid[tuple(wanted)]).all()
 
 
 def test_medians_are_those_of_scipy():
