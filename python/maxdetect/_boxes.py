@@ -26,12 +26,14 @@ def both_sums(image: numpy.ndarray, chosen: numpy.ndarray, bits: int) -> numpy.n
     found = numpy.zeros([side + 1 for side in image.shape], dtype="i8")
     for top in range(0, len(image), ROWS):
         both = image[top : top + ROWS].astype("i8")
-        both <<= bits
+        # numpy takes three times as long to shift.
+        both *= 2**bits
         both += 1
         both *= chosen[top : top + ROWS]
         numpy.cumsum(both, axis=1, out=found[top + 1 : top + 1 + len(both), 1:])
-    for row in range(1, len(found)):
-        found[row] += found[row - 1]
+        # While they are in the processor's cache.
+        for row in range(top + 1, top + 1 + len(both)):
+            found[row] += found[row - 1]
     return found
 
 

@@ -15,6 +15,7 @@ import numpy
 from . import _boxes as boxes
 from ._pieces import Parts
 from ._sky import grown
+from ._windows import rows_and_columns
 
 __all__ = ["kept", "reach"]
 
@@ -94,15 +95,20 @@ class _Bands:
         """The numbers of some rows."""
         return numpy.asarray(self.numbers[rows], dtype="i4")
 
-    def painted(self, rows: slice, more: int) -> Tuple[numpy.ndarray, slice]:
-        """The map of some rows with so many above and below, and where they stand there."""
-        wide = self.rows(rows, more)
-        return self.parts.painted(wide, self.width), slice(rows.start - wide.start, rows.stop - wide.start)
+    def near(self, rows: slice, reach: int, shown: bool) -> numpy.ndarray:
+        """Which pixels of some rows lie within reach of a component with a source, or of a source's node."""
+        wide = self.rows(rows, reach)
+        some = slice(*numpy.searchsorted(self.parts.places, (wide.start * self.width, wide.stop * self.width)))
+        painted = numpy.zeros((wide.stop - wide.start, self.width), dtype=bool)
+        painted.ravel()[self.parts.places[some] - wide.start * self.width] = self.parts.shown[some] if shown else True
+        return grown(painted, reach)[rows.start - wide.start : rows.stop - wide.start]
 
     def beside(self, rows: slice, values: numpy.ndarray, threshold: int) -> numpy.ndarray:
         """Which pixels of some rows, with these numbers, lie beside all components with a source."""
-        painted, own = self.painted(rows, CLOSE)
-        return ~(grown(painted != 0, CLOSE)[own] | (values >= threshold) | (values == numpy.iinfo("i4").min))
+        found = self.near(rows, CLOSE, shown=False)
+        found |= values >= threshold
+        found |= values == numpy.iinfo("i4").min
+        return ~found
 
     def around(self, half: int, threshold: int) -> _Around:
         """What lies around the pixels of the sources' nodes, beside all components."""
@@ -110,7 +116,7 @@ class _Bands:
         for own, some in self:
             rows = self.rows(own, half)
             values = self.values(rows)
-            at, columns = numpy.divmod(self.parts.places[some][shown[some]], self.width)
+            at, columns = rows_and_columns(self.parts.places[some][shown[some]], self.width)
             found.append(_around(values, self.beside(rows, values, threshold), half, at - rows.start, columns))
         return _Around(*(numpy.concatenate(them) for them in zip(*found)))
 
@@ -118,9 +124,8 @@ class _Bands:
         """Which of the parts' pixels lie away from all sources."""
         found = [numpy.zeros(0, dtype=bool)]
         for rows, some in self:
-            painted, own = self.painted(rows, BESIDE)
-            far = ~grown(painted > 0, BESIDE)[own]
-            found.append(far.ravel()[self.parts.places[some] - rows.start * self.width])
+            near = self.near(rows, BESIDE, shown=True)
+            found.append(~near.ravel()[self.parts.places[some] - rows.start * self.width])
         return numpy.concatenate(found)
 
 
@@ -134,7 +139,7 @@ def _halos(bands: _Bands, half: int, least: float) -> Iterator[Tuple[numpy.ndarr
     node = numpy.cumsum(parts.shown) - 1
     for number in many.tolist():
         own = numpy.flatnonzero(owner == number)
-        rows, columns = numpy.divmod(parts.places[own], bands.width)
+        rows, columns = rows_and_columns(parts.places[own], bands.width)
         top, left = rows[0], columns.min()
         box = slice(top, rows[-1] + 1), slice(left, columns.max() + 1)
         far = numpy.zeros([it.stop - it.start for it in box], dtype=bool)

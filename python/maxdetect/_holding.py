@@ -12,7 +12,7 @@ import numpy
 
 from ._pieces import Parts
 from ._rows import Rows
-from ._windows import Box, in_box, moved
+from ._windows import Box, in_box, moved, rows_and_columns
 
 __all__ = ["Piece", "cut_piece", "piece"]
 
@@ -34,7 +34,7 @@ class Piece:
 
 def _unknown(parts: Parts, window: Box, whole: Box, reach: int) -> List[Box]:
     """The boxes, in the whole, of the components with sources of which not all within reach lies in the window."""
-    rows, columns = numpy.divmod(parts.places, window.shape[1])
+    rows, columns = rows_and_columns(parts.places, window.shape[1])
     left, right = reach * (window.left > 0), window.shape[1] - reach * (window.right < whole.right)
     top, bottom = reach * (window.top > 0), window.shape[0] - reach * (window.bottom < whole.bottom)
     deep = (rows >= top) & (rows < bottom) & (columns >= left) & (columns < right)
@@ -58,7 +58,7 @@ def _picked(parts: Parts, window: Box, whole: Box, chosen: numpy.ndarray, cut: n
     numbers[numpy.asarray(parts.catalogue["NUMBER"])[chosen]] = numpy.arange(1, chosen.sum() + 1)
     owners = numbers[parts.owners]
     some = owners != 0
-    rows, columns = numpy.divmod(parts.places[some], window.shape[1])
+    rows, columns = rows_and_columns(parts.places[some], window.shape[1])
     pixels = (rows + window.top) * whole.shape[1] + (columns + window.left)
     table = moved(parts.catalogue[chosen], window.left, window.top)
     return Piece(table, pixels, owners[some] - 1, parts.shown[some], cut[chosen], left)

@@ -5,6 +5,7 @@ import numpy
 
 from ._columns import CATALOGUE
 from ._rows import Rows, behind_each_other
+from ._windows import rows_and_columns
 
 __all__ = ["Pixels", "bases_of", "of_places", "rows", "stacked"]
 
@@ -49,7 +50,7 @@ def of_places(
     which of the given ones they are.
     """
     order = numpy.argsort(of, kind="stable")
-    rows, columns = numpy.divmod(places[order], shape[1])
+    rows, columns = rows_and_columns(places[order], shape[1])
     starts = numpy.searchsorted(of[order], numpy.arange(count))
     return Pixels(rows, columns, values[order].astype("i8"), starts), order
 

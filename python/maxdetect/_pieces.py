@@ -25,6 +25,8 @@ Significance = Callable[[int, float, int], float]
 # So many pixels are at work at a time.
 CACHED = 2**16
 LEAST = numpy.iinfo("i4").min
+# By how many rows and columns the neighbours behind a pixel lie further on.
+BEHIND = [(0, 1), (1, -1), (1, 0), (1, 1)]
 
 
 class _Pixels:
@@ -33,7 +35,7 @@ class _Pixels:
     """
 
     def __init__(self, numbers: numpy.ndarray, segments: numpy.ndarray, threshold: int):
-        self.width, found = numbers.shape[1], []
+        (self.height, self.width), found = numbers.shape, []
         for rows in bands(numbers):
             values = numpy.asarray(numbers[rows], dtype="i4").ravel()
             places = numpy.flatnonzero(values >= threshold)
@@ -55,21 +57,35 @@ class _Pixels:
             at = at + is_there
         return found
 
-    def behind(self, some: numpy.ndarray) -> List[numpy.ndarray]:
-        """For some pixels which ones the neighbours behind them are: on the right, and in the next row."""
+    def around(self, some: numpy.ndarray) -> List[numpy.ndarray]:
+        """For some pixels which ones their eight neighbours are."""
         places = self.places[some]
         columns = places % self.width
         inside = [columns != 0, numpy.True_, columns != self.width - 1]
         right = numpy.where((self.places[some + 1] == places + 1) & inside[2], some + 1, self.count)
-        return [right, *self._in_row(places + self.width, inside)]
-
-    def around(self, some: numpy.ndarray) -> List[numpy.ndarray]:
-        """The same of all eight neighbours."""
-        places = self.places[some]
-        columns = places % self.width
-        inside = [columns != 0, numpy.True_, columns != self.width - 1]
         left = numpy.where((self.places[some - 1] == places - 1) & inside[0], some - 1, self.count)
-        return [*self.behind(some), left, *self._in_row(places - self.width, inside)[::-1]]
+        below, above = (self._in_row(places + by, inside) for by in (self.width, -self.width))
+        return [right, *below, left, *above[::-1]]
+
+    def touching(self) -> Iterator[Tuple[numpy.ndarray, numpy.ndarray]]:
+        """Pairs of pixels side by side that belong to two sources."""
+        rows = max(1, 4 * CACHED // self.width)
+        for top in range(0, self.height, rows):
+            begin = top * self.width
+            first, last, end = numpy.searchsorted(
+                self.places, (begin, begin + rows * self.width, begin + (rows + 1) * self.width)
+            )
+            # A table of these rows and the next one, with a place more at both ends.
+            at, own = self.places[first:end] - (begin - 1), self.labels[first:last]
+            labels = numpy.zeros((rows + 1) * self.width + 2, dtype="i4")
+            labels[at] = self.labels[first:end]
+            for down, across in BEHIND:
+                step = down * self.width + across
+                its = labels[at[: last - first] + step]
+                one = first + numpy.flatnonzero((own != its) & (own != 0) & (its != 0))
+                columns = self.places[one] % self.width + across
+                one = one[(columns >= 0) & (columns < self.width)]
+                yield one, numpy.searchsorted(self.places, self.places[one] + step)
 
 
 def _chunks(some: numpy.ndarray) -> Iterator[numpy.ndarray]:
@@ -84,10 +100,10 @@ def _share_out(pixels: _Pixels) -> None:
     rest = numpy.flatnonzero(labels[:-1] == 0)
     way = numpy.arange(pixels.count)
     for some in _chunks(rest):
-        best, up = values[some], some.copy()
+        best, up = values[some], some
         for beside in pixels.around(some):
-            higher = values[beside] > best
-            best[higher], up[higher] = values[beside[higher]], beside[higher]
+            its = values[beside]
+            up, best = numpy.where(its > best, beside, up), numpy.maximum(best, its)
         way[some] = up
     up = way[rest]
     while True:
@@ -107,10 +123,11 @@ def _share_out(pixels: _Pixels) -> None:
 
 def _highest(pixels: _Pixels, some: numpy.ndarray) -> numpy.ndarray:
     """For some pixels the source of the neighbour that stands highest among those with one."""
-    best, label = numpy.full(some.size, LEAST), numpy.zeros(some.size, dtype="i4")
+    best, label = numpy.full(some.size, LEAST, dtype="i4"), numpy.zeros(some.size, dtype="i4")
     for beside in pixels.around(some):
-        higher = (pixels.labels[beside] != 0) & (pixels.values[beside] > best)
-        best[higher], label[higher] = pixels.values[beside[higher]], pixels.labels[beside[higher]]
+        its = pixels.labels[beside]
+        value = numpy.where(its != 0, pixels.values[beside], LEAST)
+        label, best = numpy.where(value > best, its, label), numpy.maximum(best, value)
     return label
 
 
@@ -125,20 +142,19 @@ class _Meetings(NamedTuple):
 def _meetings(pixels: _Pixels) -> _Meetings:
     """Where parts meet. Two pixels side by side meet at the lesser of their numbers."""
     found = [numpy.zeros((3, 0), dtype="i8")]
-    for some in _chunks(numpy.flatnonzero(pixels.labels != 0)):
-        own, numbers = pixels.labels[some], pixels.values[some]
-        for beside in pixels.behind(some):
-            other = pixels.labels[beside]
-            touch = (other != 0) & (own != other)
-            pair = numpy.sort(numpy.stack([own[touch], other[touch]]), axis=0)
-            level = numpy.minimum(numbers[touch], pixels.values[beside[touch]])
-            found.append(numpy.concatenate([pair, level[None, :]]).astype("i8"))
+    for one, other in pixels.touching():
+        pair = numpy.sort([pixels.labels[one], pixels.labels[other]], axis=0)
+        level = numpy.minimum(pixels.values[one], pixels.values[other])
+        found.append(numpy.concatenate([pair, level[None, :]]).astype("i8"))
     one, other, level = numpy.concatenate(found, axis=1)
+    if not len(one):
+        return _Meetings([], [], [])
+    pairs = one * (int(pixels.labels.max()) + 1) + other
+    order = numpy.argsort(pairs, kind="stable")
+    starts = numpy.flatnonzero(numpy.diff(pairs[order], prepend=-1))
+    level, one, other = numpy.maximum.reduceat(level[order], starts), one[order[starts]], other[order[starts]]
     order = numpy.lexsort((other, one, -level))
-    one, other, level = one[order], other[order], level[order]
-    _, first = numpy.unique(one * (int(pixels.labels.max()) + 1) + other, return_index=True)
-    first.sort()
-    return _Meetings(one[first].tolist(), other[first].tolist(), level[first].tolist())
+    return _Meetings(one[order].tolist(), other[order].tolist(), level[order].tolist())
 
 
 def _components(meetings: _Meetings, count: int) -> numpy.ndarray:
@@ -222,14 +238,6 @@ class Parts(NamedTuple):
     owners: numpy.ndarray
     shown: numpy.ndarray
     components: numpy.ndarray
-
-    def painted(self, rows: slice, width: int) -> numpy.ndarray:
-        """Some rows of the map; below 0 are the numbers of sources to which pixels belong that it isn't to show."""
-        painted = numpy.zeros((rows.stop - rows.start, width), dtype="i4")
-        some = slice(*numpy.searchsorted(self.places, (rows.start * width, rows.stop * width)))
-        owners = self.owners[some]
-        painted.ravel()[self.places[some] - rows.start * width] = numpy.where(self.shown[some], owners, -owners)
-        return painted
 
 
 def sources(

@@ -5,6 +5,7 @@ from typing import Callable
 import numpy
 
 from . import _sky as sky
+from ._windows import rows_and_columns
 
 __all__ = ["correlated", "margin", "noise_behind", "smoothed"]
 
@@ -60,7 +61,7 @@ def _beside(finite: numpy.ndarray, reach: int) -> numpy.ndarray:
     if len(undefined) * (2 * reach + 1) ** 2 > FEW * finite.size:
         return numpy.flatnonzero(sky.grown(~finite, reach))
     steps, near = numpy.arange(-reach, reach + 1), numpy.zeros(finite.size, dtype=bool)
-    rows, columns = (it[:, None] + steps for it in numpy.divmod(undefined, width))
+    rows, columns = (it[:, None] + steps for it in rows_and_columns(undefined, width))
     inside = ((rows >= 0) & (rows < height))[:, :, None] & ((columns >= 0) & (columns < width))[:, None, :]
     near[(rows[:, :, None] * width + columns[:, None, :])[inside]] = True
     return numpy.flatnonzero(near)
@@ -77,7 +78,7 @@ def _weights_at(places: numpy.ndarray, finite: numpy.ndarray, weights: numpy.nda
     down = numpy.empty((height, width + 2 * reach), dtype="f4")
     down[:, :reach] = down[:, reach + width :] = 0
     down[:, reach : reach + width] = _down(numpy.ones((height, 1), dtype="f4"), weights)
-    rows, columns = numpy.divmod(numpy.flatnonzero(~finite), width)
+    rows, columns = rows_and_columns(numpy.flatnonzero(~finite), width)
     steps = numpy.arange(-reach, reach + 1)
     at, of = (it.ravel() for it in numpy.broadcast_arrays(rows[:, None] + steps, columns[:, None]))
     at, of = (it[(at >= 0) & (at < height)] for it in (at, of))

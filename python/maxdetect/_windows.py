@@ -7,7 +7,7 @@ import numpy
 
 from ._rows import Rows
 
-__all__ = ["Box", "MOST_PIXELS", "Made", "Plan", "firsts", "in_box", "moved"]
+__all__ = ["Box", "MOST_PIXELS", "Made", "Plan", "firsts", "in_box", "moved", "rows_and_columns"]
 
 # Columns that move with a window, and by how much for a pixel.
 ACROSS = {"XMIN": 1, "XMAX": 1, "XFIRST": 1, "XCEN": 1000, "X": 1, "XWIN": 1, "XPEAK": 1}
@@ -142,6 +142,12 @@ class _Tile(NamedTuple):
 
 def _pixels(tiles: List[_Tile]) -> int:
     return sum(tile.window.pixels for tile in tiles)
+
+
+def rows_and_columns(places: numpy.ndarray, width: int) -> Tuple[numpy.ndarray, numpy.ndarray]:
+    """Those of places in a flat image of this width. numpy's divmod takes three times as long."""
+    rows = places // width
+    return rows, places - rows * width
 
 
 # ---- the rows of a window's catalogue

@@ -29,6 +29,7 @@ from ._pointlike import PointSources
 from ._rows import Rows
 from ._sky import grown
 from ._stamps import LEFT_OUT
+from ._windows import rows_and_columns
 
 __all__ = [
     "APERTURE",
@@ -72,9 +73,7 @@ class _Pixels:
     @functools.cached_property
     def at(self) -> Tuple[numpy.ndarray, numpy.ndarray]:
         """Their rows and columns."""
-        # numpy's divmod takes twice as long.
-        rows = self.places // self.width
-        return rows, self.places - rows * self.width
+        return rows_and_columns(self.places, self.width)
 
     def summed(self, weights: numpy.ndarray) -> numpy.ndarray:
         """The sum of the weights over each source, by number."""

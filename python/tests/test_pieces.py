@@ -32,7 +32,8 @@ class Drawn:
     """The sources of an image with their map, and one without gaps."""
 
     def __init__(self, parts, image):
-        painted = parts.painted(slice(0, image.shape[0]), image.shape[1])
+        painted = numpy.zeros(image.shape, dtype="i4")
+        painted.ravel()[parts.places] = numpy.where(parts.shown, parts.owners, -parts.owners)
         self.catalogue, self.segments, self.labels = parts.catalogue, numpy.maximum(painted, 0), numpy.abs(painted)
         self.components = parts.components
 
