@@ -200,10 +200,7 @@ def _found(
             for piece in each(pool, _Tile(detector, holding.cut_piece), left):
                 gathered.take(piece)
     table, cut = gathered.rows()
-    seen = len(table)
-    if detector.settings.clean:
-        table, cut = _cleaned(table, cut, segments)
-    return _Found(table, cut, seen - len(table))
+    return _Found(table, cut, gathered.count - len(table))
 
 
 def _meta(detector: Detector, skies: "_Skies", found: _Found) -> Dict[str, Any]:
@@ -234,22 +231,6 @@ def _at_work(detector: Detector, executor: Optional[concurrent.futures.Executor]
                 setattr(detector, name, threading.Lock())
             executor = stack.enter_context(concurrent.futures.ThreadPoolExecutor(2))
         yield executor
-
-
-def _cleaned(table: Rows, cut: numpy.ndarray, segments: numpy.ndarray) -> Tuple[Rows, numpy.ndarray]:
-    """The rows that are kept, numbered anew, and which of them are cut; their map too, in place."""
-    kept = numpy.asarray(table["KEPT"], dtype=bool)
-    table = table[[name for name in table.colnames if name != "KEPT"]][kept]
-    table["NUMBER"] = numpy.arange(1, len(table) + 1, dtype=table["NUMBER"].dtype)
-    if kept.all():
-        return table, cut
-    new = numpy.zeros(2 * len(kept) + 1, dtype=segments.dtype)
-    new[1 : len(kept) + 1][kept] = numpy.arange(1, kept.sum() + 1)
-    # A number below 0 is the place of its row from the end.
-    new[len(kept) + 1 :] = -new[len(kept) : 0 : -1]
-    for rows in maps.bands(segments):
-        segments[rows] = new[segments[rows]]
-    return table, cut[kept]
 
 
 class _Skies(NamedTuple):
@@ -305,7 +286,7 @@ def _with_wide(detector: Detector, table: Rows, segments: numpy.ndarray, executo
     rows["FLAGS"] |= WIDE
     meta = table.meta
     table, places = joining.numbered([table, rows])
-    joining.renumber(segments, places)
+    joining.renumber(segments, places, len(places))
     table.meta = meta
     return table
 

@@ -25,16 +25,21 @@ def numbered(tables: List[Rows]) -> Tuple[Rows, numpy.ndarray]:
     return table, places
 
 
-def renumber(segments: numpy.ndarray, places: numpy.ndarray) -> None:
-    """A map whose numbers count the rows as they stood, in place by those that `numbered` gives; those below 0 too."""
-    numbers = numpy.zeros(2 * len(places) + 1, dtype=segments.dtype)
-    numbers[places + 1] = numpy.arange(1, len(places) + 1)
+def renumber(segments: numpy.ndarray, places: numpy.ndarray, count: int) -> None:
+    """A map whose numbers, those below 0 too, count so many rows as they stood, in place by where these are now; rows
+    that aren't there any more are taken out of it.
+    """
+    numbers, every = numpy.zeros(2 * count + 1, dtype=segments.dtype), numpy.arange(1, len(places) + 1)
+    numbers[places + 1] = every
     # A number below 0 is the place of its row from the end.
-    numbers[-places - 1] = -numpy.arange(1, len(places) + 1)
-    if (numbers[1 : len(places) + 1] == numpy.arange(1, len(places) + 1)).all():
+    numbers[-places - 1] = -every
+    if len(places) == count and (numbers[1 : count + 1] == every).all():
         return
     for rows in maps.bands(segments):
-        segments[rows] = numbers[segments[rows]]
+        # Most pixels are no source's.
+        own = segments[rows].reshape(-1)
+        some = numpy.flatnonzero(own != 0)
+        own[some] = numbers[own[some]]
 
 
 def without_gaps(segments: numpy.ndarray) -> numpy.ndarray:
@@ -76,7 +81,13 @@ class Gathered:
         self.tables, self.cut, self.count = [], [], 0
 
     def rows(self) -> Tuple[Rows, numpy.ndarray]:
-        """The rows, numbered by their first pixels as the map now is, and which of them are cut."""
+        """The rows, numbered by their first pixels as the map now is, and which of them are cut; those alone that are
+        kept, where a column says so.
+        """
         table, places = numbered(self.tables)
-        renumber(self.segments, places)
+        if "KEPT" in table.colnames:
+            kept = numpy.asarray(table["KEPT"], dtype=bool)
+            table, places = table[[name for name in table.colnames if name != "KEPT"]][kept], places[kept]
+            table["NUMBER"] = numpy.arange(1, len(table) + 1, dtype=table["NUMBER"].dtype)
+        renumber(self.segments, places, self.count)
         return table, numpy.concatenate(self.cut)[places]
