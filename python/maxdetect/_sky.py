@@ -320,7 +320,9 @@ class Sky:
     def level(self, rows: slice, columns: slice) -> numpy.ndarray:
         """The level in the image's units there, in 64 bits where 32 don't hold it beside the noise."""
         above = self.background(rows, columns)
-        return (above if abs(self.zero) < 4096 * self.noise else above.astype("f8")) + self.zero
+        found = above if abs(self.zero) < 4096 * self.noise else above.astype("f8")
+        found += self.zero
+        return found
 
     def noises(self, rows: slice, columns: slice) -> numpy.ndarray:
         """The noise at the pixels of a window, by its cells."""

@@ -93,8 +93,11 @@ class _Pixels:
 
 def _undefined(image: numpy.ndarray, mask: Optional[numpy.ndarray]) -> numpy.ndarray:
     """Which pixels have no value, row by row as SEP wants them."""
-    undefined = ~numpy.isfinite(numpy.ma.getdata(image)) | numpy.ma.getmaskarray(image)
-    return numpy.ascontiguousarray(undefined if mask is None else undefined | numpy.asarray(mask, dtype=bool))
+    undefined = ~numpy.isfinite(numpy.ma.getdata(image))
+    for more in (numpy.ma.getmask(image), mask):
+        if more is not None and more is not numpy.ma.nomask:
+            undefined |= numpy.asarray(more, dtype=bool)
+    return numpy.ascontiguousarray(undefined)
 
 
 @described
@@ -204,12 +207,15 @@ def _defined(image: numpy.ndarray, mask: Optional[numpy.ndarray], noise: Numbers
 
 
 def _pixels_of(segments: numpy.ndarray, numbers: numpy.ndarray) -> _Pixels:
-    """The pixels of a map that belong to sources, among them those with these numbers."""
+    """The pixels of a map that belong to the sources with these numbers."""
     places = numpy.flatnonzero(segments.ravel() > 0)
     # numpy takes such numbers as places without a copy.
     within = segments.ravel()[places].astype(numpy.intp)
     length = int(max(within.max(initial=0), numbers.max(initial=0))) + 1
-    return _Pixels(places, within, length, segments.shape[1])
+    wanted = numpy.zeros(length, dtype=bool)
+    wanted[numbers] = True
+    own = wanted[within]
+    return _Pixels(places[own], within[own], length, segments.shape[1])
 
 
 def residual_of(image: numpy.ndarray, background: Numbers, undefined: numpy.ndarray) -> numpy.ndarray:
@@ -312,14 +318,16 @@ class _Holes:
         self.undefined = undefined
         self._sums = None
         if undefined.any():
-            tops, lefts = (numpy.arange(0, side, COARSE) for side in undefined.shape)
-            squares = numpy.logical_or.reduceat(numpy.logical_or.reduceat(undefined, tops, axis=0), lefts, axis=1)
+            (height, width), (down, across) = undefined.shape, (-(-side // COARSE) for side in undefined.shape)
+            squares = numpy.zeros((down * COARSE, across * COARSE), dtype=bool)
+            squares[:height, :width] = undefined
+            squares = squares.reshape(down, COARSE, -1).any(axis=1).reshape(down, across, COARSE).any(axis=2)
             self._sums = boxes.sums(squares, "i4")
 
     @functools.cached_property
     def images(self) -> Tuple[numpy.ndarray, numpy.ndarray]:
         """Images as SEP takes them: 1 at undefined pixels and else 0, and 1 everywhere."""
-        return self.undefined.astype("f4"), numpy.ones(self.undefined.shape, dtype="f4")
+        return self.undefined, numpy.ones(self.undefined.shape, dtype=bool)
 
     def near(self, x: numpy.ndarray, y: numpy.ndarray, reach: numpy.ndarray) -> numpy.ndarray:
         """The places of all sources that have one so near their centres, by columns and rows, and of some that have one
