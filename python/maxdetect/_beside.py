@@ -40,7 +40,7 @@ def _left_out(segments: numpy.ndarray, within: slice, undefined: numpy.ndarray) 
     found = segments != 0
     for reach in range(GROWTH, 0, -1):
         left_out = grown(found, reach)[within] | undefined
-        if left_out.mean() <= 1 - LEAST_SHARE:
+        if numpy.count_nonzero(left_out) / left_out.size <= 1 - LEAST_SHARE:
             return left_out
     return found[within] | undefined
 
@@ -65,10 +65,11 @@ def of_row(
     scaled = residual * numpy.float32(1 / unit)
     lefts = numpy.arange(0, residual.shape[1], mesh)
     area = len(residual) * numpy.diff(lefts, append=residual.shape[1])
-    share = numpy.add.reduceat(left_out.sum(axis=0), lefts) / area
-    beyond = numpy.float32(numpy.inf)
-    low = numpy.minimum.reduceat(numpy.minimum.reduce(numpy.where(left_out, beyond, scaled)), lefts)
-    high = numpy.maximum.reduceat(numpy.maximum.reduce(numpy.where(left_out, -beyond, scaled)), lefts)
+    share = numpy.add.reduceat(numpy.add.reduce(left_out, axis=0, dtype="i4"), lefts, dtype="i8") / area
+    seen = scaled.copy()
+    numpy.copyto(seen, numpy.nan, where=left_out)
+    low = numpy.fmin.reduceat(numpy.fmin.reduce(seen), lefts)
+    high = numpy.fmax.reduceat(numpy.fmax.reduce(seen), lefts)
     cells = numpy.array([low, numpy.zeros(len(lefts))])
     cells[:, share > 1 - ENOUGH] = numpy.nan
     for number in numpy.flatnonzero((share <= 1 - ENOUGH) & (low < high)).tolist():

@@ -1,9 +1,11 @@
 """The command `maxcat`: from images to catalogues."""
 import argparse
+import contextlib
+import gc
 import shlex
 import sys
 import warnings
-from typing import List, Optional
+from typing import Iterator, List, Optional
 
 from . import _likesex as likesex
 from ._options import parser
@@ -25,13 +27,25 @@ def _given(words: List[str]) -> argparse.Namespace:
     return given
 
 
+@contextlib.contextmanager
+def _kept() -> Iterator[None]:
+    """What is loaded meanwhile stays until the end, so that Python needn't look through it for garbage."""
+    gc.disable()
+    try:
+        yield
+        gc.freeze()
+    finally:
+        gc.enable()
+
+
 def run(words: Optional[List[str]] = None) -> bool:
     """Does what the words say, and tells for each image what came of it: False where one of several wasn't done.
     Raises Mistake.
     """
     given = _given(sys.argv[1:] if words is None else words)
     # Until all is loaded a signal ends the command at once: there is nothing to clean up.
-    from . import _running as running
+    with _kept() if words is None else contextlib.nullcontext():
+        from . import _running as running
 
     with ended_by_signals():
         return running.run(given)

@@ -38,8 +38,8 @@ from ._windows import MOST_PIXELS, Box, Plan
 __all__ = ["TILE", "Detector", "Field", "Settings", "sources"]
 
 
-# So many rows of a window are prepared at a time.
-ROWS = 256
+# So many rows of a window are prepared at a time: with those around them that count too, as many as are read at once.
+ROWS = 240
 # How far a tile's window reaches beyond its core at first, in pixels.
 MARGIN = 64
 # How many neighbours a pixel has.

@@ -226,7 +226,7 @@ def residual_of(image: numpy.ndarray, background: Numbers, undefined: numpy.ndar
     residual = (data - background if data.dtype.kind == "f" else data.astype("f8") - background).astype(
         "f4", order="C", copy=False
     )
-    residual[undefined] = 0
+    numpy.copyto(residual, 0, where=undefined)
     return residual
 
 
