@@ -48,10 +48,10 @@ if TYPE_CHECKING:
 __all__ = ["LEAST", "NoProgram", "Refusal", "detect", "filter", "find_program", "load", "measure", "read", "tree"]
 
 # Asks the C library (glibc from 2.35 on) for large pages, since arrays of a word a pixel come from the system page by
-# page: for those of 4 MiB and more, which go back to it when they are freed, and for one heap, whatever the threads.
+# page: for those of 8 MiB and more, which go back to it when they are freed, and for one heap, whatever the threads.
 LARGE_PAGES = (
     "glibc.malloc.hugetlb=1:glibc.malloc.arena_max=1"
-    ":glibc.malloc.mmap_threshold=4194304:glibc.malloc.trim_threshold=4294967296"
+    ":glibc.malloc.mmap_threshold=8388608:glibc.malloc.trim_threshold=4294967296"
 )
 
 Path = Union[str, os.PathLike]
