@@ -75,13 +75,13 @@ fn near_pixels_stay(rt: HostRuntime) -> Result<(), Fail> {
     Ok(())
 }
 
-// One of twenty pixels has at least the threshold. It is worked on in a window of three columns and rows.
+// One of 25 pixels has at least the threshold. It is worked on in a window of three columns and rows.
 #[test]
 fn high_pixels_are_worked_on_a_sheet(rt: HostRuntime) -> Result<(), Fail> {
     let alloc = rt.alloc();
-    let shape = Shape::of(5, 4).ok_or("a shape")?;
-    let mut values = vec![in alloc; Some(0i64); 20]?;
-    if let Some(pixel) = values.get_mut(7) {
+    let shape = Shape::of(5, 5).ok_or("a shape")?;
+    let mut values = vec![in alloc; Some(0i64); 25]?;
+    if let Some(pixel) = values.get_mut(12) {
         *pixel = Some(7);
     }
     let plane = Plane::of(alloc, shape, &values)?.ok_or("a plane")?;
