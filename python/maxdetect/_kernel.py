@@ -48,11 +48,13 @@ if TYPE_CHECKING:
 __all__ = ["LEAST", "NoProgram", "Refusal", "detect", "filter", "find_program", "load", "measure", "read", "tree"]
 
 # Asks the C library (glibc from 2.35 on) for large pages, since arrays of a word a pixel come from the system page by
-# page: for those of 8 MiB and more, which go back to it when they are freed, and for one heap, whatever the threads.
-LARGE_PAGES = (
-    "glibc.malloc.hugetlb=1:glibc.malloc.arena_max=1"
-    ":glibc.malloc.mmap_threshold=8388608:glibc.malloc.trim_threshold=4294967296"
-)
+# page, and for one heap, whatever the threads.
+LARGE_PAGES = "glibc.malloc.hugetlb=1:glibc.malloc.arena_max=1"
+# The least array that goes back to the system as soon as it is freed, and how much free memory the heap keeps. For a
+# small image, of which many may follow each other, clearing pages again costs more than the memory is worth.
+SMALL_IMAGES = "glibc.malloc.mmap_threshold=8388608:glibc.malloc.trim_threshold=4294967296"
+LARGE_IMAGES = "glibc.malloc.mmap_threshold=2097152:glibc.malloc.trim_threshold=2097152"
+LARGE_INPUT = 16 << 20
 
 Path = Union[str, os.PathLike]
 
@@ -206,9 +208,12 @@ def _refusal(words, status, note):
     return Refusal(status, None, "failed", f"the program ended with status {status}: {' '.join(note.split())}")
 
 
-def _environment():
-    """The program's environment: its own pages of memory, unless the caller's GLIBC_TUNABLES says otherwise."""
-    return {"GLIBC_TUNABLES": LARGE_PAGES, **os.environ}
+def _environment(size):
+    """The program's environment for an input of so many bytes: its own pages of memory, unless the caller's
+    GLIBC_TUNABLES says otherwise.
+    """
+    kept = SMALL_IMAGES if size < LARGE_INPUT else LARGE_IMAGES
+    return {"GLIBC_TUNABLES": f"{LARGE_PAGES}:{kept}", **os.environ}
 
 
 def in_memory():
@@ -228,10 +233,11 @@ def answered(words, file, program=None, name="maxdetect"):
     """The same for an input that stands in a file."""
     file.seek(0)
     path = find_program(program, name)
+    own = _environment(os.fstat(file.fileno()).st_size)
     with in_memory() as output:
         try:
             result = subprocess.run(
-                [path, *words], stdin=file, stdout=output, stderr=subprocess.PIPE, env=_environment(), check=False
+                [path, *words], stdin=file, stdout=output, stderr=subprocess.PIPE, env=own, check=False
             )
         except OSError as error:
             raise NoProgram(f"{path} can't be run: {error.strerror}") from None

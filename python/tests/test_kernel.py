@@ -221,15 +221,18 @@ def test_other_words_of_a_program_are_told(tmp_path, status, note):
 def test_the_program_gets_large_pages_unless_the_caller_says_otherwise(monkeypatch, tmp_path):
     program = script(tmp_path, 'echo "it has $GLIBC_TUNABLES." >&2; exit 7\n')
     monkeypatch.delenv("GLIBC_TUNABLES", raising=False)
-    with pytest.raises(maxdetect.Refusal, match=f"it has {re.escape(kernel.LARGE_PAGES)}[.]"):
-        maxdetect.tree(SMALL, program=program)
+    large = numpy.arange(1 << 22, dtype="i4").reshape(2048, 2048)
+    for image, kept in ((SMALL, kernel.SMALL_IMAGES), (large, kernel.LARGE_IMAGES)):
+        with pytest.raises(maxdetect.Refusal, match=f"it has {re.escape(kernel.LARGE_PAGES)}:{re.escape(kept)}[.]"):
+            maxdetect.tree(image, program=program)
     monkeypatch.setenv("GLIBC_TUNABLES", "")
     with pytest.raises(maxdetect.Refusal, match="it has [.]"):
         maxdetect.tree(SMALL, program=program)
-    assert kernel.LARGE_PAGES in (TOP / "maxdetect").read_text(encoding="utf-8")
+    for name in ("maxdetect", "maxwide"):
+        assert f"{kernel.LARGE_PAGES}:{kernel.LARGE_IMAGES}" in (TOP / name).read_text(encoding="utf-8")
     # The man page cuts the long word in two and lets a line end behind each colon.
-    page = (TOP / "docs/maxdetect.1").read_text(encoding="utf-8")
-    assert kernel.LARGE_PAGES in page.replace("\n.as tune ", "").replace("\\:", "")
+    page = (TOP / "docs/maxdetect.1").read_text(encoding="utf-8").replace("\n.as tune ", "").replace("\\:", "")
+    assert f"{kernel.LARGE_PAGES}:{kernel.LARGE_IMAGES}" in page
 
 
 def test_other_outputs_of_a_program_are_told(tmp_path):

@@ -39,7 +39,7 @@ newly_none marks first = record {
   all = λ p b. let low : first ≤ p = b.low in let high : p < first = b.high in absurd (omega arith);
 }
 
-pub newly_more : (old marks : List Bool) (first p : ℕ) → p < length marks → is_marked marks p ≡ false → AreNewlyMarked old marks (IsBetween first p)
+newly_more : (old marks : List Bool) (first p : ℕ) → p < length marks → is_marked marks p ≡ false → AreNewlyMarked old marks (IsBetween first p)
     → AreNewlyMarked old (set marks p true) (IsBetween first (p + 1))
 newly_more old marks first p l none before = record {
   same_length = length-set marks p true ∙ before.same_length;
@@ -59,6 +59,11 @@ newly_more old marks first p l none before = record {
     all : (q : ℕ) → IsBetween first (p + 1) q → (q < p) ⊎ (p ≤ q) → is_marked (set marks p true) q ≡ true
     all q b (inl k) = mark_kept marks p q l (before.all q (record { low = b.low; high = k }))
     all q b (inr k) = subst (λ (n : ℕ). is_marked (set marks p true) n ≡ true) (same q b k) (get_or-set_same marks p true false l)
+
+pub newly_marked : (old marks new : List Bool) (first p : ℕ) → p < length marks → is_marked marks p ≡ false → new ≡ set marks p true
+    → AreNewlyMarked old marks (IsBetween first p) → AreNewlyMarked old new (IsBetween first (p + 1))
+newly_marked old marks new first p l none is before =
+    subst (λ (m : List Bool). AreNewlyMarked old m (IsBetween first (p + 1))) (sym is) (newly_more old marks first p l none before)
 
 pub newly_at : (old new : List Bool) (first p end : ℕ) → AreNewlyMarked old new (IsBetween first p) → p ≡ end → AreNewlyMarked old new (IsBetween first end)
 newly_at old new first p end newly e = subst (λ (n : ℕ). AreNewlyMarked old new (IsBetween first n)) e newly

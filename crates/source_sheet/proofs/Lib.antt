@@ -5,6 +5,7 @@ mod Bounds
 mod Around
 mod Copies
 mod Laying
+mod Marking
 mod Spots
 mod Owning
 mod Sheeted

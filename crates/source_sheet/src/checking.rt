@@ -9,6 +9,7 @@ ghost use Rattle.source_sheet.specs.Checks.{LiesInBoth, LieInBoth, IsInWindow, S
 
 use crate::beside::{end_beside, reach_in};
 use crate::holding::hold_all;
+use crate::marks::PixelMarks;
 use crate::sheet::Place;
 use comp_tree::{Connect, Plane, Shape, neighbours};
 use costs::OutOfMemory;
@@ -339,13 +340,13 @@ fn are_apart(
 {
     let whole = plane.shape();
     let onto = sheet.shape();
-    let mut marks = vec![in alloc; false; onto.pixels() as usize]?;
+    let mut marks = PixelMarks::none(alloc, onto.pixels() as usize)?;
     let apart = mark_windows(whole, onto, places, &mut marks);
     Ok(apart)
 }
 
 // Marks the pixels of the places' windows on the sheet, up to a window of which a pixel has a mark.
-fn mark_windows(whole: Shape, onto: Shape, places: &[Place], marks: &mut [bool]) -> bool
+fn mark_windows(whole: Shape, onto: Shape, places: &[Place], marks: &mut PixelMarks) -> bool
     requires one_each { length marks.old ≡ onto.width * onto.height }
     requires placed { LieInBoth whole onto places.now }
     ensures { IsTrue result → AreAllApart onto.width places.now (length places.now) marks.new }
@@ -359,15 +360,15 @@ fn mark_windows(whole: Shape, onto: Shape, places: &[Place], marks: &mut [bool])
 }
 
 // Marks the pixels of the window, up to a row of which a pixel has a mark.
-fn mark_window(whole: Shape, left: u32, top: u32, shape: Shape, marks: &mut [bool]) -> bool
+fn mark_window(whole: Shape, left: u32, top: u32, shape: Shape, marks: &mut PixelMarks) -> bool
     requires one_each { length marks.old ≡ whole.width * whole.height }
     requires inside { IsInside whole (window_at left top shape) }
     ensures { IsTrue result → AreNewlyMarked marks.old marks.new
         (IsInRows whole.width (window_at left top shape) shape.height) }
 {
     for row in 0..shape.height {
-        let first = pixel_at(whole, left, row + top) as usize;
-        if !mark_between(first, first + shape.width as usize, marks) {
+        let first = pixel_at(whole, left, row + top);
+        if !mark_between(first, first + shape.width, marks) {
             return false;
         }
     }
@@ -375,16 +376,16 @@ fn mark_window(whole: Shape, left: u32, top: u32, shape: Shape, marks: &mut [boo
 }
 
 // Marks the pixels from the first one up to the end, or up to one that has a mark.
-fn mark_between(first: usize, end: usize, marks: &mut [bool]) -> bool
+fn mark_between(first: u32, end: u32, marks: &mut PixelMarks) -> bool
     requires order { first ≤ end }
     requires inside { end ≤ length marks.old }
     ensures { IsTrue result → AreNewlyMarked marks.old marks.new (IsBetween first end) }
 {
     for p in first..end {
-        if marks[p] {
+        if marks.has(p) {
             return false;
         }
-        marks[p] = true;
+        marks.set(p);
     }
     true
 }

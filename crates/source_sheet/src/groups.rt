@@ -3,6 +3,7 @@
 ghost use Rattle.std.specs.Prelude.{◌≡◌, ◌+◌, ◌<◌, ◌≤◌, true, false, [], length, replicate, All, IfOk, OnOk, IfSome};
 ghost use Rattle.source_sheet.specs.Groups.{HasLookedAt, HasLookedAtFirst, HasSpread, IsFlooded, AreGrouped, HasGrouped, AreGroupedBefore, HoldsGroups};
 
+use crate::marks::PixelMarks;
 use comp_tree::{Connect, Plane, neighbours};
 use costs::OutOfMemory;
 use source_pick::Choice;
@@ -30,7 +31,7 @@ pub(crate) fn large_groups(
     ensures inside { IfOk result (λ found. IfSome found
         (λ groups. All (λ p. p < length plane.now.values) groups.pixels.items)) }
 {
-    let mut marks = no_marks(alloc, plane.shape().pixels() as usize)?;
+    let mut marks = PixelMarks::none(alloc, plane.shape().pixels() as usize)?;
     let mut groups = Groups {
         pixels: Vec::new(alloc),
         ends: Vec::new(alloc),
@@ -41,20 +42,12 @@ pub(crate) fn large_groups(
     Ok(Some(groups))
 }
 
-// Marks for so many pixels, none of them set.
-pub(crate) fn no_marks(alloc: Global, count: usize) -> Result<Vec<bool>, OutOfMemory>
-    ensures { IfOk result (λ marks. marks.items ≡ replicate count false) }
-{
-    let marks = vec![in alloc; false; count]?;
-    Ok(marks)
-}
-
 // Finds the groups of all pixels. It gives up where they have more than half of the pixels, and tells whether it didn't.
 fn scan(
     plane: &Plane,
     connect: Connect,
     choice: &Choice,
-    marks: &mut [bool],
+    marks: &mut PixelMarks,
     groups: &mut Groups,
 ) -> Result<bool, OutOfMemory>
     requires blank { marks.old ≡ replicate (length plane.now.values) false }
@@ -63,12 +56,10 @@ fn scan(
     ensures inside { IfOk result (λ whole. whole ≡ true → All (λ p. p < length plane.now.values) groups.new.pixels.items) }
 {
     let count = plane.shape().pixels();
-    let mut p = plane.next_defined(0, count);
-    while p < count {
+    for p in 0..count {
         if !look_at(plane, connect, choice, count / 2, p, marks, groups)? {
             return Ok(false);
         }
-        p = plane.next_defined(p + 1, count);
     }
     Ok(true)
 }
@@ -82,7 +73,7 @@ fn look_at(
     choice: &Choice,
     most: u32,
     p: u32,
-    marks: &mut [bool],
+    marks: &mut PixelMarks,
     groups: &mut Groups,
 ) -> Result<bool, OutOfMemory>
     requires pixel { p < length plane.now.values }
@@ -93,7 +84,7 @@ fn look_at(
         → AreGroupedBefore plane.now connect choice.now.threshold choice.now.min_area (p + 1) marks.new groups.new.pixels.items) }
 {
     // most pixels are low: their marks aren't read
-    if !plane.is_at_least(choice.threshold, p) || marks[p as usize] {
+    if !plane.is_at_least(choice.threshold, p) || marks.has(p) {
         return Ok(true);
     }
     add_group(plane, connect, choice, most, p, marks, groups)
@@ -107,7 +98,7 @@ fn add_group(
     choice: &Choice,
     most: u32,
     p: u32,
-    marks: &mut [bool],
+    marks: &mut PixelMarks,
     groups: &mut Groups,
 ) -> Result<bool, OutOfMemory>
     requires pixel { p < length plane.now.values }
@@ -138,7 +129,7 @@ fn flood(
     choice: &Choice,
     most: u32,
     p: u32,
-    marks: &mut [bool],
+    marks: &mut PixelMarks,
     pixels: &mut Vec<u32>,
 ) -> Result<bool, OutOfMemory>
     requires pixel { p < length plane.now.values }
@@ -150,7 +141,7 @@ fn flood(
         → IsFlooded plane.now connect choice.now.threshold p marks.old pixels.old.items marks.new pixels.new.items) }
 {
     let mut cursor = pixels.len();
-    marks[p as usize] = true;
+    marks.set(p);
     pixels.push(p)?;
     while cursor < pixels.len() {
         if cursor >= most as usize {
@@ -169,7 +160,7 @@ fn spread(
     connect: Connect,
     choice: &Choice,
     a: u32,
-    marks: &mut [bool],
+    marks: &mut PixelMarks,
     pixels: &mut Vec<u32>,
 ) -> Result<(), OutOfMemory>
     requires pixel { a < length plane.now.values }
@@ -185,7 +176,7 @@ fn mark_high(
     plane: &Plane,
     choice: &Choice,
     near: &[u32],
-    marks: &mut [bool],
+    marks: &mut PixelMarks,
     pixels: &mut Vec<u32>,
 ) -> Result<(), OutOfMemory>
     requires inside { All (λ b. b < length plane.now.values) near.now }
@@ -204,17 +195,17 @@ fn mark(
     plane: &Plane,
     choice: &Choice,
     b: u32,
-    marks: &mut [bool],
+    marks: &mut PixelMarks,
     pixels: &mut Vec<u32>,
 ) -> Result<(), OutOfMemory>
     requires pixel { b < length plane.now.values }
     requires one_each { length marks.old ≡ length plane.now.values }
     ensures { OnOk result (HasLookedAt plane.now choice.now.threshold b marks.old pixels.old.items marks.new pixels.new.items) }
 {
-    if marks[b as usize] || !plane.is_at_least(choice.threshold, b) {
+    if marks.has(b) || !plane.is_at_least(choice.threshold, b) {
         return Ok(());
     }
-    marks[b as usize] = true;
+    marks.set(b);
     pixels.push(b)?;
     Ok(())
 }

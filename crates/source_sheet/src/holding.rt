@@ -8,7 +8,7 @@ ghost use Rattle.source_sheet.specs.Checks.{LiesInBoth, LieInBoth};
 ghost use Rattle.source_sheet.specs.Holding.{HasHeld, HasHeldFirst, HasHeldAll, AreHeldApart};
 
 use crate::checking::pixel_at;
-use crate::groups::no_marks;
+use crate::marks::PixelMarks;
 use crate::sheet::Place;
 use comp_tree::Plane;
 use costs::OutOfMemory;
@@ -30,7 +30,7 @@ pub(crate) fn hold_all(
     ensures held { IfOk result (λ all. all ≡ true → (p : ℕ) → Contains listed.now p
         → (i : ℕ) × ((c : Place) × (slice_get places.now i ≡ Some c) × HoldsPixel plane.now sheet.now choice.now.threshold c p)) }
 {
-    let mut marks = no_marks(alloc, plane.shape().pixels() as usize)?;
+    let mut marks = PixelMarks::none(alloc, plane.shape().pixels() as usize)?;
     Ok(hold_listed(plane, sheet, choice, places, listed, &mut marks))
 }
 
@@ -41,7 +41,7 @@ fn hold_listed(
     choice: &Choice,
     places: &[Place],
     listed: &[u32],
-    marks: &mut [bool],
+    marks: &mut PixelMarks,
 ) -> bool
     requires placed { LieInBoth plane.now.shape sheet.now.shape places.now }
     requires listed { All (λ p. p < length plane.now.values) listed.now }
@@ -57,12 +57,12 @@ fn hold_listed(
 }
 
 // Whether all these pixels are marked.
-fn are_marked(marks: &[bool], listed: &[u32]) -> bool
+fn are_marked(marks: &PixelMarks, listed: &[u32]) -> bool
     requires { All (λ p. p < length marks.now) listed.now }
     ensures { result ≡ true → All (λ p. IsTrue (is_marked marks.now p)) listed.now }
 {
     for p in listed {
-        if !marks[*p as usize] {
+        if !marks.has(*p) {
             return false;
         }
     }
@@ -75,7 +75,7 @@ fn mark_all_held(
     sheet: &Plane,
     choice: &Choice,
     places: &[Place],
-    marks: &mut [bool],
+    marks: &mut PixelMarks,
 ) -> bool
     requires placed { LieInBoth plane.now.shape sheet.now.shape places.now }
     requires blank { marks.old ≡ replicate (length plane.now.values) false }
@@ -96,7 +96,7 @@ fn mark_held(
     sheet: &Plane,
     choice: &Choice,
     place: &Place,
-    marks: &mut [bool],
+    marks: &mut PixelMarks,
 ) -> bool
     requires placed { LiesInBoth plane.now.shape sheet.now.shape place.now }
     requires one_each { length marks.old ≡ length plane.now.values }
@@ -117,7 +117,7 @@ fn mark_held_row(
     choice: &Choice,
     place: &Place,
     row: u32,
-    marks: &mut [bool],
+    marks: &mut PixelMarks,
 ) -> bool
     requires placed { LiesInBoth plane.now.shape sheet.now.shape place.now }
     requires row { row < place.now.shape.height }
@@ -141,7 +141,7 @@ fn mark_held_row(
 
 // Marks pixel `p` if pixel `there` of the sheet is high, and tells whether it had no mark.
 #[inline]
-fn hold(sheet: &Plane, choice: &Choice, there: u32, p: u32, marks: &mut [bool]) -> bool
+fn hold(sheet: &Plane, choice: &Choice, there: u32, p: u32, marks: &mut PixelMarks) -> bool
     requires there { there < length sheet.now.values }
     requires pixel { p < length marks.old }
     ensures one_each { length marks.new ≡ length marks.old }
@@ -150,9 +150,9 @@ fn hold(sheet: &Plane, choice: &Choice, there: u32, p: u32, marks: &mut [bool]) 
     if !sheet.is_at_least(choice.threshold, there) {
         return true;
     }
-    if marks[p as usize] {
+    if marks.has(p) {
         return false;
     }
-    marks[p as usize] = true;
+    marks.set(p);
     true
 }

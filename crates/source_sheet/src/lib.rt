@@ -11,6 +11,7 @@ mod groups;
 mod holding;
 mod layout;
 mod map;
+mod marks;
 mod sheet;
 
 pub use back::{SheetDetection, sources_of_sheet};

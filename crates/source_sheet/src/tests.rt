@@ -1,4 +1,5 @@
 //! Sheets of small planes, and what they tell of them.
+use crate::marks::PixelMarks;
 use crate::{lay_out, sources_of_sheet};
 use comp_tree::{Connect, Plane, Shape, plain_tree};
 use source_pick::Choice;
@@ -22,6 +23,18 @@ fn plane_with(alloc: Global, high: &[(usize, i64)]) -> Result<Plane, Fail> {
         }
     }
     Ok(Plane::of(alloc, shape, &values)?.ok_or("a plane")?)
+}
+
+// Marks at both sides of a word's end and at the end of all.
+#[test]
+fn a_mark_stands_alone(rt: HostRuntime) -> Result<(), Fail> {
+    let mut marks = PixelMarks::none(rt.alloc(), 130)?;
+    marks.set(63);
+    marks.set(64);
+    marks.set(129);
+    assert!(rt; marks.has(63) && marks.has(64) && marks.has(129));
+    assert!(rt; !marks.has(0) && !marks.has(62) && !marks.has(65) && !marks.has(128));
+    Ok(())
 }
 
 // The pair in the third row stands in a window of four columns and three rows, and the pixel in the first row has too few around it.

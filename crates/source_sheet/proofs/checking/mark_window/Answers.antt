@@ -8,7 +8,7 @@ mark_between-requires-clause-inside c =
     let l : c.pixel_at-first.result + c.args.shape.width ≤ c.args.whole.width * c.args.whole.height =
     row_inside c.args.whole (window_at c.args.left c.args.top c.args.shape) c.loop-row.row c.pixel_at-first.result (c.pixel_at-first.result + c.args.shape.width)
     c.requires.inside (omega (arith, c.loop-row-test.true)) c.pixel_at-first.ensures.is refl in
-    omega (arith, c.requires.one_each, c.loop-row.auto.marks)
+    omega (arith, c.requires.one_each, c.loop-row.invariant.same_length)
 
 pub loop-row-init : goal.loop-row-init
 loop-row-init c = rows_none c.args.whole.width (window_at c.args.left c.args.top c.args.shape) c.args.marks.now

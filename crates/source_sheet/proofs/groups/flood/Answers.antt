@@ -1,5 +1,4 @@
-use Rattle.std.proofs.Common.{◌≡◌, ◌∙◌, ◌<◌, length, sym, subst, refl, true, ℕ, arith}
-use Rattle.std.specs.Prelude.{slice_set}
+use Rattle.std.proofs.Common.{◌≡◌, ◌∙◌, ◌<◌, length, sym, subst, ℕ, arith}
 use Rattle.source_sheet.specs.Groups.{IsFlooding}
 use Rattle.source_sheet.proofs.Grouping.{flood_start, flood_step}
 use Rattle.source_sheet.proofs.groups.flood.Goals as goal
@@ -10,9 +9,9 @@ loop-cursor-init c =
     record {
       flooding =
           subst (λ (n : ℕ). IsFlooding c.args.plane.now c.args.connect c.args.choice.now.threshold c.args.p c.args.marks.now c.args.pixels.now.items n
-          (slice_set c.args.marks.now c.args.p true) c.push.new.self.items) len
+          c.set.new.self c.push.new.self.items) len
           (flood_start c.args.plane.now c.args.connect c.args.choice.now.threshold c.args.p c.args.marks.now c.args.pixels.now.items
-          (slice_set c.args.marks.now c.args.p true) c.push.new.self.items c.requires.pixel c.requires.one_each c.requires.inside refl
+          c.set.new.self c.push.new.self.items c.requires.pixel c.requires.one_each c.requires.inside c.set.ensures
           c.in_ok-push.ensures.items);
       few = omega (arith, c.requires.few, len);
     }

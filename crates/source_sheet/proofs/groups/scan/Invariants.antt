@@ -1,4 +1,4 @@
-use Rattle.std.proofs.Common.{◌≡◌, ◌≤◌, ◌-◌, ◌/◌, length}
+use Rattle.std.proofs.Common.{◌≡◌, ◌≤◌, ◌/◌, length}
 use Rattle.source_sheet.specs.Groups.{AreGroupedBefore}
 use Rattle.source_sheet.proofs.groups.scan.Given as goal
 
@@ -6,9 +6,5 @@ abbrev pub invariant-loop-p : goal.invariant-loop-p
 invariant-loop-p l = record {
   before : AreGroupedBefore l.plane l.connect l.choice.threshold l.choice.min_area l.p l.marks l.groups.pixels.items;
   all : l.count ≡ length l.plane.values;
-  within : l.p ≤ l.count;
   few : length l.groups.pixels.items ≤ l.count / 2;
 }
-
-abbrev pub decreases-loop-p : goal.decreases-loop-p
-decreases-loop-p l = l.count - l.p
