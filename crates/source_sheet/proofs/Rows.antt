@@ -31,7 +31,7 @@ use Rattle.source_sheet.specs.declared.sheet.Place.{Place}
 use Rattle.source_sheet.specs.declared.back.Taken.{Taken}
 use Rattle.source_sheet.specs.Laid.{part_of}
 use Rattle.node_sums.proofs.Exported.{sums_at}
-use Rattle.source_sheet.specs.Backs.{IsCoordinate, IsSmallRow, IsNear, found_as, found_of, nodes_in}
+use Rattle.source_sheet.specs.Backs.{IsCoordinate, IsSmallRow, IsNear, HaveSums, found_as, found_of}
 use Rattle.source_sheet.proofs.Taking.{get_mapped}
 
 -- ---- how large the numbers of a row are
@@ -109,16 +109,16 @@ back_fits t h c row columns small centred near = record {
 -- ---- the cells of some rows
 
 -- these are the cells of the first count rows
-pub record AreCellsBack (tree : ComponentTree) (sums : List Sums) (taken : List Taken) (count : ℕ) (items : List ℤ) : Type 0 where
+pub record AreCellsBack (tree : ComponentTree) (taken : List Taken) (count : ℕ) (items : List ℤ) : Type 0 where
   pub rows : List CatRow
   pub made : items ≡ flat_map cells_of rows
   pub one_each : length rows ≡ count
   pub fit : AllByRecursion (λ row. FitEach catalogue_columns (cells_of row)) rows
-  pub exact : (s : Raster) (connect : Connect) → tree ≡ tree_of s connect → sums ≡ map (sums_of s connect) (nodes_in taken) → (h : ℤ)
+  pub exact : (s : Raster) (connect : Connect) → tree ≡ tree_of s connect → HaveSums s connect taken → (h : ℤ)
       → rows ≡ take count (sheet_rows s connect (found_of s h taken))
 
-pub no_cells : (tree : ComponentTree) (sums : List Sums) (taken : List Taken) (items : List ℤ) → items ≡ [] → AreCellsBack tree sums taken 0 items
-no_cells tree sums taken items empty = record { rows = []; made = empty; one_each = refl; fit = tt; exact = λ s connect is are h. refl }
+pub no_cells : (tree : ComponentTree) (taken : List Taken) (items : List ℤ) → items ≡ [] → AreCellsBack tree taken 0 items
+no_cells tree taken items empty = record { rows = []; made = empty; one_each = refl; fit = tt; exact = λ s connect is are h. refl }
 
 pub all_more : {X : Type 0} (P : X → Type 0) (xs : List X) (x : X) → AllByRecursion P xs → P x → AllByRecursion P (xs ++ x ∷ [])
 all_more P [] x before here = (here, tt)
@@ -146,31 +146,12 @@ row_numbered s connect h taken count e d got =
     (get_or_from_slice_get (found_of s h taken) count (found_as s h e) (found_as s h e) (get_mapped (found_as s h) taken count e got))
     ∙ ap (λ (n : ℕ). row_back (part_of s h e.place) (catalogue_row s connect n e.node)) number
 
--- the sums of a taken source stand at its place
-pub sums_taken : (s : Raster) (connect : Connect) (taken : List Taken) (sums : List Sums) (count : ℕ) (d : Sums) (e : Taken)
-    → sums ≡ map (sums_of s connect) (nodes_in taken) → slice_get taken count ≡ Some e → get_or sums count d ≡ sums_of s connect e.node
-sums_taken s connect taken sums count d e are got =
-    let few : count < length taken = slice_get_within taken count e got in
-    sums_at s connect (nodes_in taken) sums count d are (omega (arith, few, length-map taken (λ (x : Taken). x.node)))
-    ∙ ap (sums_of s connect) (get_or_from_slice_get (nodes_in taken) count e.node 0 (get_mapped (λ (x : Taken). x.node) taken count e got))
-
-pub sums_of_taken : (tree : ComponentTree) (taken : List Taken) (sums : List Sums) (count : ℕ) (d : Sums) (e : Taken)
-    → AreSumsOfNodes tree (nodes_in taken) sums → slice_get taken count ≡ Some e → AreSumsOfNode tree e.node (get_or sums count d)
-sums_of_taken tree taken sums count d e h got = record {
-  plane = h.plane;
-  connect = h.connect;
-  one_each = h.one_each;
-  in_range = h.in_range;
-  tree_is = h.tree_is;
-  sums_are = sums_taken h.plane h.connect taken sums count d e h.sums_are got;
-}
-
-pub cells_more : (tree : ComponentTree) (sums : List Sums) (taken : List Taken) (count : ℕ) (items items' : List ℤ) (e : Taken) (row : CatRow)
-    → AreCellsBack tree sums taken count items → slice_get taken count ≡ Some e → items' ≡ items ++ cells_of row → FitsColumns row
-    → ((s : Raster) (connect : Connect) → tree ≡ tree_of s connect → sums ≡ map (sums_of s connect) (nodes_in taken) → (t : Raster) (h : ℤ)
+pub cells_more : (tree : ComponentTree) (taken : List Taken) (count : ℕ) (items items' : List ℤ) (e : Taken) (row : CatRow)
+    → AreCellsBack tree taken count items → slice_get taken count ≡ Some e → items' ≡ items ++ cells_of row → FitsColumns row
+    → ((s : Raster) (connect : Connect) → tree ≡ tree_of s connect → HaveSums s connect taken → (t : Raster) (h : ℤ)
     → row ≡ row_back (part_of t h e.place) (catalogue_row s connect (count + 1) e.node))
-    → AreCellsBack tree sums taken (count + 1) items'
-cells_more tree sums taken count items items' e row before got more columns is = record {
+    → AreCellsBack tree taken (count + 1) items'
+cells_more tree taken count items items' e row before got more columns is = record {
   rows = before.rows ++ row ∷ [];
   made = more ∙ ap (λ l. l ++ cells_of row) before.made ∙ ap (λ l. flat_map cells_of before.rows ++ l) (sym (append-nil (cells_of row)))
       ∙ sym (flat_map-append cells_of before.rows (row ∷ []));
@@ -184,18 +165,18 @@ cells_more tree sums taken count items items' e row before got more columns is =
       (let few : count < length taken = slice_get_within taken count e got in omega (arith, few, length-rows s connect h taken)));
 }
 
-pub all_cells : (tree : ComponentTree) (sums : List Sums) (taken : List Taken) (count : ℕ) (items : List ℤ) → AreCellsBack tree sums taken count items
-    → length taken ≤ count → (s : Raster) (connect : Connect) → tree ≡ tree_of s connect → sums ≡ map (sums_of s connect) (nodes_in taken) → (h : ℤ)
+pub all_cells : (tree : ComponentTree) (taken : List Taken) (count : ℕ) (items : List ℤ) → AreCellsBack tree taken count items
+    → length taken ≤ count → (s : Raster) (connect : Connect) → tree ≡ tree_of s connect → HaveSums s connect taken → (h : ℤ)
     → items ≡ flat_map cells_of (sheet_rows s connect (found_of s h taken))
-all_cells tree sums taken count items are whole s connect tree_is sums_are h =
+all_cells tree taken count items are whole s connect tree_is sums_are h =
     are.made
     ∙ ap (flat_map cells_of)
     (are.exact s connect tree_is sums_are h
     ∙ take_all count (sheet_rows s connect (found_of s h taken)) (omega (arith, whole, length-rows s connect h taken)))
 
-pub cells_table : (tree : ComponentTree) (sums : List Sums) (taken : List Taken) (count : ℕ) (items : List ℤ) → AreCellsBack tree sums taken count items
+pub cells_table : (tree : ComponentTree) (taken : List Taken) (count : ℕ) (items : List ℤ) → AreCellsBack tree taken count items
     → count ≤ 2147483647 → IsTable catalogue_columns items
-cells_table tree sums taken count items are few =
+cells_table tree taken count items are few =
     subst (IsTable catalogue_columns) (sym are.made)
     (rows_are_table catalogue_columns cells_of are.rows catalogue_are_columns are.fit (omega (arith, are.one_each, few)))
 

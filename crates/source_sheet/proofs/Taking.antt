@@ -24,7 +24,7 @@ use Rattle.comp_tree.specs.Laws.{IsNode, top_of}
 use Rattle.comp_tree.specs.Windows.{IsInside, in_whole}
 use Rattle.comp_tree.proofs.Exported.{below_from_defined, in_node-defined, in_whole-below}
 use Rattle.node_sums.specs.declared.entry.Sums.{Sums}
-use Rattle.node_sums.specs.Sums.{sums_of, sums_in}
+use Rattle.node_sums.specs.Sums.{sums_of, sums_in, AreSumsOfNode, AreSumsOfNodes}
 use Rattle.node_sums.proofs.Exported.{rows_are}
 use Rattle.source_pick.specs.declared.choice.Choice.{Choice}
 use Rattle.source_pick.specs.Sources.{is_source, sources}
@@ -36,7 +36,7 @@ use Rattle.source_sheet.specs.declared.sheet.Sheet.{Sheet}
 use Rattle.source_sheet.specs.declared.back.Taken.{Taken}
 use Rattle.source_sheet.specs.Laid.{windows_of, part_of, IsLaidOut, AreApartThere}
 use Rattle.source_sheet.specs.Checks.{IsInWindow}
-use Rattle.source_sheet.specs.Backs.{SheetLaws, AreOwners, IsOwned, first_in, AreFirstsOf, has_owner, IsTakenAs, AreTaken, found_as, found_of, nodes_in, parts_of}
+use Rattle.source_sheet.specs.Backs.{SheetLaws, AreOwners, IsOwned, first_in, AreFirstsOf, HasOwnSums, HaveOwnSums, has_owner, IsTakenAs, AreTaken, found_as, found_of, nodes_in, parts_of}
 use Rattle.source_sheet.proofs.Spots.{back_is}
 use Rattle.source_sheet.proofs.Sheeted.{IsMapped, mapped_from, among_got, placed, held_lies, held_all, held_top, IsPlacedSource, one_source}
 
@@ -87,6 +87,16 @@ pub taken_up_to : (width columns : ℕ) (places : List Place) (owners : List ℕ
 taken_up_to width columns places owners sums picked j k taken h e =
     subst (λ (n : ℕ). AreTaken width columns places owners sums picked n taken) (sym e) h
 
+-- ---- their sums
+
+pub none_own : (picked : List ℕ) (own : List Sums) (taken : List Taken) → taken ≡ [] → HaveOwnSums picked own taken
+none_own picked own taken e = subst (HaveOwnSums picked own) (sym e) (All-nil (HasOwnSums picked own))
+
+pub more_own : (picked : List ℕ) (own : List Sums) (i n : ℕ) (entry : Sums) (e : Taken) (taken : List Taken) → HaveOwnSums picked own taken
+    → slice_get picked i ≡ Some n → slice_get own i ≡ Some entry → e.node ≡ n → e.sums ≡ entry → HaveOwnSums picked own (taken ++ e ∷ [])
+more_own picked own i n entry e taken before node sums same_node same_sums =
+    All-push (HasOwnSums picked own) taken e before (record { it = i; node = node ∙ ap Some (sym same_node); sums = sums ∙ ap Some (sym same_sums) })
+
 -- ---- lists
 
 less_from : (a b : ℕ) → a ≤ b → (a ≡ b → ⊥) → a < b
@@ -122,6 +132,37 @@ got_mapped f (x ∷ xs) (suc i) y e = got_mapped f xs i y e
 
 pub get_mapped : {X Y : Type 0} (f : X → Y) (xs : List X) (i : ℕ) (x : X) → slice_get xs i ≡ Some x → slice_get (map f xs) i ≡ Some (f x)
 get_mapped f xs i x e = slice_get-map f xs i ∙ ap (option_map f) e
+
+-- so they have the sums of their nodes
+pub own_sums : (s : Raster) (connect : Connect) (picked : List ℕ) (own : List Sums) (e : Taken) → own ≡ map (sums_of s connect) picked
+    → HasOwnSums picked own e → e.sums ≡ sums_of s connect e.node
+own_sums s connect picked own e are h =
+    same_Some e.sums (sums_of s connect e.node)
+    (sym h.sums ∙ ap (λ (xs : List Sums). slice_get xs h.it) are ∙ get_mapped (sums_of s connect) picked h.it e.node h.node)
+
+own_read : (picked picked' : List ℕ) (own own' : List Sums) (taken : List Taken) → picked' ≡ picked → own' ≡ own → HaveOwnSums picked' own' taken
+    → HaveOwnSums picked own taken
+own_read picked picked' own own' taken e f h =
+    subst (λ (ns : List ℕ). HaveOwnSums ns own taken) e (subst (λ (ss : List Sums). HaveOwnSums picked' ss taken) f h)
+
+-- in whatever order they stand
+pub own_moved : (picked picked' : List ℕ) (own own' : List Sums) (taken sorted : List Taken) → picked' ≡ picked → own' ≡ own
+    → IsPermutation taken sorted → HaveOwnSums picked' own' taken → (i : ℕ) (e : Taken) → slice_get sorted i ≡ Some e → HasOwnSums picked own e
+own_moved picked picked' own own' taken sorted same_picked same_own moved h i e got =
+    All-contains (HasOwnSums picked own) sorted e
+    (All-permutation (HasOwnSums picked own) taken sorted moved (own_read picked picked' own own' taken same_picked same_own h))
+    (contains_from_among e sorted (among_got e sorted i got))
+
+pub own_of_node : (tree : ComponentTree) (picked : List ℕ) (own : List Sums) (e : Taken) → AreSumsOfNodes tree picked own → HasOwnSums picked own e
+    → AreSumsOfNode tree e.node e.sums
+own_of_node tree picked own e are h = record {
+  plane = are.plane;
+  connect = are.connect;
+  one_each = are.one_each;
+  in_range = are.in_range;
+  tree_is = are.tree_is;
+  sums_are = own_sums are.plane are.connect picked own e are.sums_are h;
+}
 
 -- the least pixel, as the sums have it
 pub first-is : (s : Raster) (connect : Connect) (sums : List Sums) (n : ℕ) → sums ≡ sums_in s connect → IsNode s connect n

@@ -7,6 +7,7 @@ use Rattle.comp_tree.specs.ComponentTree.{ComponentTree}
 use Rattle.comp_tree.specs.Components.{tree_of}
 use Rattle.comp_tree.specs.Windows.{Window, in_whole}
 use Rattle.node_sums.specs.declared.entry.Sums.{Sums}
+use Rattle.node_sums.specs.Sums.{sums_of}
 use Rattle.source_pick.specs.declared.choice.Choice.{Choice}
 use Rattle.source_pick.specs.declared.catalogue.CatRow.{CatRow}
 use Rattle.source_pick.specs.Catalogue.{cells_of}
@@ -77,6 +78,19 @@ pub record IsTakenAs (width columns : ℕ) (places : List Place) (owners : List 
   pub lies : IsInWindow columns (windows_of e.place).to (first_in sums n)
   pub number : slice_index owners (first_in sums n) ≡ it + 1
   pub back : (s : Raster) (h : ℤ) → e.first ≡ taken_back width columns (part_of s h e.place) (first_in sums n)
+
+-- a source has the node and the sums that stand at one place of these lists
+pub record HasOwnSums (picked : List ℕ) (own : List Sums) (e : Taken) : Type 0 where
+  pub it : ℕ
+  pub node : slice_get picked it ≡ Some e.node
+  pub sums : slice_get own it ≡ Some e.sums
+
+abbrev pub HaveOwnSums : List ℕ → List Sums → List Taken → Type 0
+HaveOwnSums picked own taken = All (HasOwnSums picked own) taken
+
+-- each source has the sums of its node
+abbrev pub HaveSums : Raster → Connect → List Taken → Type 0
+HaveSums s connect taken = (i : ℕ) (e : Taken) → slice_get taken i ≡ Some e → e.sums ≡ sums_of s connect e.node
 
 -- it is so, or has no owner
 abbrev pub IsTakenIfOwned : ℕ → ℕ → List Place → List ℕ → List Sums → ℕ → Option Taken → Type 0

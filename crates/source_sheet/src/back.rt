@@ -1,10 +1,10 @@
 //! The sources of a sheet, taken back to the plane: their order there, and their rows.
 
-ghost use Rattle.std.specs.Prelude.{◌≡◌, ◌≤◌, ◌<◌, ◌+◌, ◌*◌, ◌++◌, ℕ, ℤ, IfOk, OnOk, All, List, map, length, slice_index, slice_get, Some};
+ghost use Rattle.std.specs.Prelude.{◌≡◌, ◌≤◌, ◌<◌, ◌+◌, ◌*◌, ◌++◌, ℕ, ℤ, IfOk, IfSome, OnOk, All, List, map, length, slice_index, slice_get, Some};
 ghost use Rattle.std.specs.List.{flat_map};
 ghost use Rattle.comp_tree.specs.declared.shape.Connect.{Connect};
 ghost use Rattle.comp_tree.specs.Components.{tree_of};
-ghost use Rattle.node_sums.specs.Sums.{sums_of, AreSumsOfNode, AreSumsOfNodes};
+ghost use Rattle.node_sums.specs.Sums.{sums_of, AreSumsOfNode};
 ghost use Rattle.fits_write.specs.Columns.{IsTable};
 ghost use Rattle.fits_write.specs.CatalogueColumns.{catalogue_columns};
 ghost use Rattle.source_pick.specs.Catalogue.{FitsColumns, catalogue_row, catalogue, cells_of};
@@ -17,25 +17,26 @@ ghost use Rattle.source_pick.specs.Sheets.{taken_back, row_back, sheet_rows, Are
 ghost use Rattle.source_sheet.specs.declared.back.Taken.{Taken as Source};
 ghost use Rattle.source_sheet.specs.Laid.{windows_of, part_of, IsLaidOut, IsTreeOfSheet};
 ghost use Rattle.source_sheet.specs.Checks.{LiesInBoth, LieInBoth, IsInWindow};
-ghost use Rattle.source_sheet.specs.Backs.{SheetLaws, AreMarkedIn, AreOwners, first_in, AreFirstsOf, IsTakenIfOwned, AreTaken, found_of, nodes_in, IsNear, IsNodeAt, AreListed, parts_of};
+ghost use Rattle.source_sheet.specs.Backs.{SheetLaws, AreMarkedIn, AreOwners, first_in, AreFirstsOf, HaveOwnSums, HaveSums, IsTakenIfOwned, AreTaken, found_of, nodes_in, IsNear, IsNodeAt, AreListed, parts_of};
 
 use crate::map::map_of_sheet;
 use crate::sheet::{Place, Sheet};
 use comp_tree::{Shape, Tree};
 use costs::OutOfMemory;
 use fits_write::CELLS_IN_ROW;
-use node_sums::{Sums, sums_of_nodes};
+use node_sums::Sums;
 use source_pick::laws::{sources_are_disjoint, sources_of_sheets};
 use source_pick::{CatRow, Choice, cells, pick, row};
 use std::alloc::{AllocError, Global};
 use std::thread::Threads;
 
-// A source of the sheet: the least pixel that it has in the plane, its node, and the place that holds it.
+// A source of the sheet: the least pixel that it has in the plane, its node with its sums, and the place that holds it.
 #[derive(Clone, Copy)]
 struct Taken {
     first: u32,
     node: u32,
     place: Place,
+    sums: Sums,
 }
 
 // Where pixel `q` of a window stands in an image of shape `whole`.
@@ -108,31 +109,33 @@ fn laws_of_sheets()
     sources_are_disjoint();
 }
 
-// Node `n` of the sheet, where a place has its least pixel `first`.
+// Node `n` of the sheet with these sums, where a place has its least pixel.
 fn taken_at(
     whole: Shape,
     onto: Shape,
     places: &[Place],
     owners: &[u32],
-    first: u32,
+    sums: &Sums,
     n: u32,
 ) -> Option<Taken>
     requires placed { LieInBoth whole onto places.now }
     requires owners { AreOwners onto.width places.now (length places.now) owners.now }
-    requires first { first < length owners.now }
-    ensures { (sums : List Entry) → first ≡ first_in sums n
-        → IsTakenIfOwned whole.width onto.width places.now owners.now sums n result }
+    requires first { sums.now.first < length owners.now }
+    ensures taken { (all : List Entry) → sums.now.first ≡ first_in all n
+        → IsTakenIfOwned whole.width onto.width places.now owners.now all n result }
+    ensures own { IfSome result (λ e. (e.node ≡ n) × (e.sums ≡ sums.now)) }
 {
-    let owner = owners[first as usize];
+    let owner = owners[sums.first as usize];
     if owner == 0 {
         return None;
     }
     let place = places[owner as usize - 1];
-    let first = back(whole, onto, &place, first);
+    let first = back(whole, onto, &place, sums.first);
     Some(Taken {
         first,
         node: n,
         place,
+        sums: *sums,
     })
 }
 
@@ -150,12 +153,13 @@ fn placed_sources(
     requires owners { AreOwners onto.width places.now (length places.now) owners.now }
     requires one_each { length sums.now ≡ length picked.now }
     requires firsts { (i : ℕ) (entry : Entry) → slice_get sums.now i ≡ Some entry → entry.first < length owners.now }
-    ensures { IfOk result (λ taken. (all : List Entry) → AreFirstsOf all picked.now sums.now
+    ensures taken { IfOk result (λ taken. (all : List Entry) → AreFirstsOf all picked.now sums.now
         → AreTaken whole.width onto.width places.now owners.now all picked.now (length picked.now) taken.items) }
+    ensures own { IfOk result (λ taken. HaveOwnSums picked.now sums.now taken.items) }
 {
     let mut taken = Vec::new(alloc);
     for (i, n) in picked.iter().enumerate() {
-        if let Some(source) = taken_at(whole, onto, places, owners, sums[i].first, *n) {
+        if let Some(source) = taken_at(whole, onto, places, owners, &sums[i], *n) {
             taken.push(source)?;
         }
     }
@@ -179,6 +183,9 @@ fn sorted_sources(
         → (j : ℕ) × (slice_get sheet.now.places.items j ≡ Some e.place)) }
     ensures nodes { IfOk result (λ taken. AreDisjointNodes tree.now (nodes_in taken.items)) }
     ensures at { IfOk result (λ taken. (i : ℕ) (e : Source) → slice_get taken.items i ≡ Some e → IsNodeAt tree.now e) }
+    ensures sums { IfOk result (λ taken. (i : ℕ) (e : Source) → slice_get taken.items i ≡ Some e → AreSumsOfNode tree.now e.node e.sums) }
+    ensures exact { IfOk result (λ taken. (connect : Connect) → tree.now ≡ tree_of sheet.now.plane connect
+        → HaveSums sheet.now.plane connect taken.items) }
     ensures few { IfOk result (λ taken. length taken.items ≤ 2147483647) }
 {
     laws_of_sheets();
@@ -220,17 +227,17 @@ fn row_back(row: &CatRow, place: &Place) -> CatRow
 }
 
 // The row of a source in the plane, with this number.
-fn taken_row(tree: &Tree, sums: &Sums, number: u32, source: &Taken) -> CatRow
-    requires sums { AreSumsOfNode tree.now source.now.node sums.now }
+fn taken_row(tree: &Tree, number: u32, source: &Taken) -> CatRow
+    requires sums { AreSumsOfNode tree.now source.now.node source.now.sums }
     requires node { IsNodeAt tree.now source.now }
     requires from_one { 1 ≤ number }
     requires few { number ≤ 2147483647 }
     ensures exact { (s : Raster) (connect : Connect) → tree.now ≡ tree_of s connect
-        → sums.now ≡ sums_of s connect source.now.node → (t : Raster) (h : ℤ)
+        → source.now.sums ≡ sums_of s connect source.now.node → (t : Raster) (h : ℤ)
         → result ≡ row_back (part_of t h source.now.place) (catalogue_row s connect number source.now.node) }
     ensures columns { FitsColumns result }
 {
-    let there = row(tree, sums, number, source.node);
+    let there = row(tree, &source.sums, number, source.node);
     row_back(&there, &source.place)
 }
 
@@ -248,14 +255,13 @@ fn add_row(table: &mut Vec<i64>, row: &CatRow) -> Result<(), OutOfMemory>
 fn taken_cells(
     alloc: Global,
     tree: &Tree,
-    sums: &[Sums],
     taken: &[Taken],
 ) -> Result<Vec<i64>, OutOfMemory>
-    requires sums { AreSumsOfNodes tree.now (nodes_in taken.now) sums.now }
+    requires sums { (i : ℕ) (e : Source) → slice_get taken.now i ≡ Some e → AreSumsOfNode tree.now e.node e.sums }
     requires nodes { (i : ℕ) (e : Source) → slice_get taken.now i ≡ Some e → IsNodeAt tree.now e }
     requires few { length taken.now ≤ 2147483647 }
     ensures exact { IfOk result (λ table. (s : Raster) (connect : Connect) → tree.now ≡ tree_of s connect
-        → sums.now ≡ map (sums_of s connect) (nodes_in taken.now) → (h : ℤ)
+        → HaveSums s connect taken.now → (h : ℤ)
         → table.items ≡ flat_map cells_of (sheet_rows s connect (found_of s h taken.now))) }
     ensures table { IfOk result (λ table. IsTable catalogue_columns table.items) }
 {
@@ -264,7 +270,7 @@ fn taken_cells(
         Err(_) => return Err(OutOfMemory),
     };
     for (place, source) in taken.iter().enumerate() {
-        let row = taken_row(tree, &sums[place], place as u32 + 1, source);
+        let row = taken_row(tree, place as u32 + 1, source);
         add_row(&mut table, &row)?;
     }
     Ok(table)
@@ -301,8 +307,7 @@ fn list_sources(
 {
     let taken = sorted_sources(alloc, sheet, tree, choice)?;
     let nodes = nodes_of(alloc, &taken)?;
-    let sums = sums_of_nodes(alloc, &sheet.plane, tree, &nodes)?;
-    let cells = taken_cells(alloc, tree, &sums, &taken)?;
+    let cells = taken_cells(alloc, tree, &taken)?;
     Ok(Listed { nodes, cells })
 }
 

@@ -6,7 +6,7 @@ use Rattle.source_sheet.specs.declared.back.Taken.{Taken}
 use Rattle.source_sheet.proofs.Sheeted.{placed}
 use Rattle.node_sums.specs.Sums.{sums_in}
 use Rattle.node_sums.proofs.Exported.{count_of_sums}
-use Rattle.source_sheet.proofs.Taking.{few_places, firsts_of_picked, firsts_within, firsts_read, run_from, run_taken_back, run_disjoint, run_placed}
+use Rattle.source_sheet.proofs.Taking.{few_places, firsts_of_picked, firsts_within, firsts_read, run_from, run_taken_back, run_disjoint, run_placed, own_sums, own_moved, own_of_node}
 use Rattle.source_sheet.proofs.Showing.{all_placed, placed_read, owners_read, node_at, few_taken}
 use Rattle.source_sheet.proofs.back.sorted_sources.Goals as goal
 
@@ -59,7 +59,7 @@ returns-clause-back c = λ plane connect l is.
     c.in_ok-picked.picked.nodes.items _ refl known.nodes_are
     (run_from c.args.sheet.now (sums_in c.args.sheet.now.plane connect) c.shape-onto.result c.deref.result.now c.deref-2.result.now c.in_ok-picked.picked.nodes.items c.deref-5.result.now
     c.in_ok-owners.owners.items c.deref-3.result.now _ _ c.shape-onto.ensures.same c.deref.ensures.value c.deref-2.ensures.value c.deref-5.ensures.value
-    c.deref-3.ensures.value c.in_ok-owners.ensures.owners (c.in_ok-taken.ensures (sums_in c.args.sheet.now.plane connect)
+    c.deref-3.ensures.value c.in_ok-owners.ensures.owners (c.in_ok-taken.ensures.taken (sums_in c.args.sheet.now.plane connect)
     (firsts_read (sums_in c.args.sheet.now.plane connect) c.in_ok-picked.picked.nodes.items c.deref-5.result.now c.in_ok-picked.picked.sums.items
     c.deref-4.result.now c.deref-5.ensures.value c.deref-4.ensures.value
     (firsts_of_picked c.args.sheet.now.plane connect c.args.choice.now c.in_ok-picked.picked.nodes.items c.in_ok-picked.picked.sums.items l.one_each_there
@@ -73,7 +73,7 @@ returns-clause-placed c =
     c.in_ok-picked.picked.nodes.items _ refl (c.in_ok-picked.ensures.exact t.connect t.tree_is).nodes_are
     (run_from c.args.sheet.now (sums_in c.args.sheet.now.plane t.connect) c.shape-onto.result c.deref.result.now c.deref-2.result.now c.in_ok-picked.picked.nodes.items c.deref-5.result.now
     c.in_ok-owners.owners.items c.deref-3.result.now _ _ c.shape-onto.ensures.same c.deref.ensures.value c.deref-2.ensures.value c.deref-5.ensures.value
-    c.deref-3.ensures.value c.in_ok-owners.ensures.owners (c.in_ok-taken.ensures (sums_in c.args.sheet.now.plane t.connect)
+    c.deref-3.ensures.value c.in_ok-owners.ensures.owners (c.in_ok-taken.ensures.taken (sums_in c.args.sheet.now.plane t.connect)
     (firsts_read (sums_in c.args.sheet.now.plane t.connect) c.in_ok-picked.picked.nodes.items c.deref-5.result.now c.in_ok-picked.picked.sums.items
     c.deref-4.result.now c.deref-5.ensures.value c.deref-4.ensures.value
     (firsts_of_picked c.args.sheet.now.plane t.connect c.args.choice.now c.in_ok-picked.picked.nodes.items c.in_ok-picked.picked.sums.items t.laid_out.one_each_there
@@ -87,7 +87,7 @@ returns-clause-nodes c =
     c.in_ok-picked.picked.nodes.items _ refl (c.in_ok-picked.ensures.exact t.connect t.tree_is).nodes_are
     (run_from c.args.sheet.now (sums_in c.args.sheet.now.plane t.connect) c.shape-onto.result c.deref.result.now c.deref-2.result.now c.in_ok-picked.picked.nodes.items c.deref-5.result.now
     c.in_ok-owners.owners.items c.deref-3.result.now _ _ c.shape-onto.ensures.same c.deref.ensures.value c.deref-2.ensures.value c.deref-5.ensures.value
-    c.deref-3.ensures.value c.in_ok-owners.ensures.owners (c.in_ok-taken.ensures (sums_in c.args.sheet.now.plane t.connect)
+    c.deref-3.ensures.value c.in_ok-owners.ensures.owners (c.in_ok-taken.ensures.taken (sums_in c.args.sheet.now.plane t.connect)
     (firsts_read (sums_in c.args.sheet.now.plane t.connect) c.in_ok-picked.picked.nodes.items c.deref-5.result.now c.in_ok-picked.picked.sums.items
     c.deref-4.result.now c.deref-5.ensures.value c.deref-4.ensures.value
     (firsts_of_picked c.args.sheet.now.plane t.connect c.args.choice.now c.in_ok-picked.picked.nodes.items c.in_ok-picked.picked.sums.items t.laid_out.one_each_there
@@ -103,3 +103,16 @@ returns-clause-at c =
 
 pub returns-clause-few : goal.returns-clause-few
 returns-clause-few c = few_taken c.args.tree.now _ (returns-clause-nodes c)
+
+pub returns-clause-sums : goal.returns-clause-sums
+returns-clause-sums c = λ i e got.
+    own_of_node c.args.tree.now c.in_ok-picked.picked.nodes.items c.in_ok-picked.picked.sums.items e c.in_ok-picked.ensures.sums
+    (own_moved c.in_ok-picked.picked.nodes.items c.deref-5.result.now c.in_ok-picked.picked.sums.items c.deref-4.result.now _ _ c.deref-5.ensures.value
+    c.deref-4.ensures.value c.sort_unstable_by_key.ensures.permutation c.in_ok-taken.ensures.own i e got)
+
+pub returns-clause-exact : goal.returns-clause-exact
+returns-clause-exact c = λ connect is i e got.
+    own_sums c.args.sheet.now.plane connect c.in_ok-picked.picked.nodes.items c.in_ok-picked.picked.sums.items e
+    (c.in_ok-picked.ensures.exact connect is).sums_are
+    (own_moved c.in_ok-picked.picked.nodes.items c.deref-5.result.now c.in_ok-picked.picked.sums.items c.deref-4.result.now _ _ c.deref-5.ensures.value
+    c.deref-4.ensures.value c.sort_unstable_by_key.ensures.permutation c.in_ok-taken.ensures.own i e got)
