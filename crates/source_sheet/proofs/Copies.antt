@@ -18,7 +18,7 @@ use Rattle.source_sheet.specs.declared.sheet.Place.{Place}
 use Rattle.source_sheet.specs.Laid.{windows_of}
 use Rattle.source_sheet.proofs.Apart.{row_inside}
 use Rattle.source_sheet.proofs.Around.{linked_near}
-use Rattle.source_sheet.specs.Checks.{LiesInside, IsInWindow, StaysWithin, IsPixelCopied, ArePixelsCopied, AreAllCopied}
+use Rattle.source_sheet.specs.Checks.{LiesInside, IsInWindow, StaysWithin, IsPixelCopied, ArePixelsCopied, AreLowThere, AreWithin, AreAllCopied}
 
 -- ---- lists of neighbours
 
@@ -174,14 +174,82 @@ module _ (r s : Raster) (connect : Connect) (h : ℤ) (c : WindowPair) where
   pub copied_at : (first end last : ℕ) → ArePixelsCopied r s connect h c first end → end ≡ last → ArePixelsCopied r s connect h c first last
   copied_at first end last copied e = subst (λ (n : ℕ). ArePixelsCopied r s connect h c first n) e copied
 
-  -- a pixel that is low needn't be one
-  pub low_there : (q there : ℕ) → in_whole s.shape.width c.to q ≡ there → is_at_least s h there ≡ false
-      → IsTrue (is_high_there s h c.to q) → IsPixelCopied r s connect c q
-  unfolding is_high_there
-  low_there q there e low k =
-      let high : IsTrue (is_at_least s h (in_whole s.shape.width c.to q)) =
-      (and_parts (nat_lt q (window_size c.to)) (is_at_least s h (in_whole s.shape.width c.to q)) k).1 in
-      absurd (true≢false (sym high ∙ ap (is_at_least s h) e ∙ low))
+  -- pixels that are low needn't be copies
+  pub copied_low : (first end : ℕ) → AreLowThere s h c.to first end → ArePixelsCopied r s connect h c first end
+  copied_low first end low = record { each = λ q from to high. absurd (low q from to high) }
+
+  -- those of a run are
+  pub copied_run : (row first end : ℕ) → ((x : ℕ) → first ≤ x → x < end → IsPixelCopied r s connect c (row * c.to.shape.width + x))
+      → ArePixelsCopied r s connect h c (row * c.to.shape.width + first) (row * c.to.shape.width + end)
+  copied_run row first end run = record {
+    each = λ q low high k.
+        let e : row * c.to.shape.width + (q - row * c.to.shape.width) ≡ q = omega (arith, low) in
+        subst (IsPixelCopied r s connect c) e (run (q - row * c.to.shape.width) (omega (arith, low)) (omega (arith, low, high)));
+  }
+
+  -- so the pixels of a row before its first high one needn't
+  pub copied_before : (row width first : ℕ) → AreLowThere s h c.to (row * width + 0) (row * width + first)
+      → ArePixelsCopied r s connect h c (row * width) (row * width + first)
+  copied_before row width first low = copied_low (row * width) (row * width + first) (λ q from to high. low q (omega (arith, from)) to high)
+
+  -- and with a run, and the low ones behind it, more of them are
+  pub copied_behind : (row first end next : ℕ) → ArePixelsCopied r s connect h c (row * c.to.shape.width) (row * c.to.shape.width + first)
+      → ((x : ℕ) → first ≤ x → x < end → IsPixelCopied r s connect c (row * c.to.shape.width + x))
+      → AreLowThere s h c.to (row * c.to.shape.width + end) (row * c.to.shape.width + next)
+      → ArePixelsCopied r s connect h c (row * c.to.shape.width) (row * c.to.shape.width + next)
+  copied_behind row first end next before run low =
+      copied_joined (row * c.to.shape.width) (row * c.to.shape.width + first) (row * c.to.shape.width + next) before
+      (copied_joined (row * c.to.shape.width + first) (row * c.to.shape.width + end) (row * c.to.shape.width + next) (copied_run row first end run)
+      (copied_low (row * c.to.shape.width + end) (row * c.to.shape.width + next) low))
+
+-- ---- a run at the edge of a window
+
+module _ (r s : Raster) (connect : Connect) (c : WindowPair) (row first : ℕ) where
+  pub within_none : AreWithin r s connect c row first first
+  within_none = record { beyond = λ x low high. absurd (omega (arith, low, high)); beyond_sheet = λ x low high. absurd (omega (arith, low, high)) }
+
+  pub within_more : (end : ℕ) → AreWithin r s connect c row first end
+      → StaysWithin r connect c.from (in_whole r.shape.width c.from (row * c.to.shape.width + end))
+      → StaysWithin s connect c.to (in_whole s.shape.width c.to (row * c.to.shape.width + end)) → AreWithin r s connect c row first (end + 1)
+  within_more end before here there = record {
+    beyond = λ x low high. elim (cases_lt x end) [
+      | inl l ↦ before.beyond x low l
+      | inr l ↦ subst (λ (z : ℕ). StaysWithin r connect c.from (in_whole r.shape.width c.from (row * c.to.shape.width + z))) (omega (arith, l, high)) here
+    ];
+    beyond_sheet = λ x low high. elim (cases_lt x end) [
+      | inl l ↦ before.beyond_sheet x low l
+      | inr l ↦ subst (λ (z : ℕ). StaysWithin s connect c.to (in_whole s.shape.width c.to (row * c.to.shape.width + z))) (omega (arith, l, high)) there
+    ];
+  }
+
+  pub within_up_to : (end last : ℕ) → last ≤ end → AreWithin r s connect c row first end → AreWithin r s connect c row first last
+  within_up_to end last l before = record {
+    beyond = λ x low high. before.beyond x low (omega (arith, l, high));
+    beyond_sheet = λ x low high. before.beyond_sheet x low (omega (arith, l, high));
+  }
+
+-- what is high in the window has at least h
+pub high_there : (s : Raster) (h : ℤ) (w : Window) (q there : ℕ) → in_whole s.shape.width w q ≡ there → IsTrue (is_high_there s h w q)
+    → IsTrue (is_at_least s h there)
+unfolding is_high_there
+high_there s h w q there e k =
+    sym (ap (is_at_least s h) e) ∙ (and_parts (nat_lt q (window_size w)) (is_at_least s h (in_whole s.shape.width w q)) k).1
+
+low_none : (s : Raster) (h : ℤ) (w : Window) (first end : ℕ) → end ≤ first → AreLowThere s h w first end
+low_none s h w first end l q low high k = absurd (omega (arith, l, low, high))
+
+pub low_start : (s : Raster) (h : ℤ) (w : Window) (first : ℕ) → AreLowThere s h w first first
+low_start s h w first = low_none s h w first first (omega arith)
+
+pub low_more : (s : Raster) (h : ℤ) (w : Window) (first end : ℕ) → AreLowThere s h w first end → (IsTrue (is_high_there s h w end) → ⊥)
+    → AreLowThere s h w first (end + 1)
+low_more s h w first end before here q low high k = go (cases_lt q end)
+  where
+    go : (q < end) ⊎ (end ≤ q) → ⊥
+    go (inl l) = before q low l k
+    go (inr l) =
+        let e : q ≡ end = omega (arith, l, high) in
+        here (subst (λ (n : ℕ). IsTrue (is_high_there s h w n)) e k)
 
 -- the place is a copy where each of its pixels is one
 pub copied_from : (r s : Raster) (connect : Connect) (h : ℤ) (c : Place) → IsInside r.shape (windows_of c).from → IsInside s.shape (windows_of c).to

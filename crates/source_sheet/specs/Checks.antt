@@ -65,6 +65,15 @@ pub record IsPixelCopied (r s : Raster) (connect : Connect) (c : WindowPair) (q 
 pub record ArePixelsCopied (r s : Raster) (connect : Connect) (h : ℤ) (c : WindowPair) (first end : ℕ) : Type 0 where
   pub each : (q : ℕ) → first ≤ q → q < end → IsTrue (is_high_there s h c.to q) → IsPixelCopied r s connect c q
 
+-- none of the pixels of the window from the first one up to the end has at least h
+abbrev pub AreLowThere : Raster → ℤ → Window → ℕ → ℕ → Type 0
+AreLowThere s h w first end = (q : ℕ) → first ≤ q → q < end → IsTrue (is_high_there s h w q) → ⊥
+
+-- what is adjacent to the pixels of this row from the column `first` up to `end` lies in the windows
+pub record AreWithin (r s : Raster) (connect : Connect) (c : WindowPair) (row first end : ℕ) : Type 0 where
+  pub beyond : (x : ℕ) → first ≤ x → x < end → StaysWithin r connect c.from (in_whole r.shape.width c.from (row * c.to.shape.width + x))
+  pub beyond_sheet : (x : ℕ) → first ≤ x → x < end → StaysWithin s connect c.to (in_whole s.shape.width c.to (row * c.to.shape.width + x))
+
 -- ---- marks
 
 -- no pixel that lies there had a mark, each has one now, and other marks are kept

@@ -252,11 +252,7 @@ fn add_row(table: &mut Vec<i64>, row: &CatRow) -> Result<(), OutOfMemory>
 }
 
 // The cells of the sources in the plane, which are numbered from 1.
-fn taken_cells(
-    alloc: Global,
-    tree: &Tree,
-    taken: &[Taken],
-) -> Result<Vec<i64>, OutOfMemory>
+fn taken_cells(alloc: Global, tree: &Tree, taken: &[Taken]) -> Result<Vec<i64>, OutOfMemory>
     requires sums { (i : ℕ) (e : Source) → slice_get taken.now i ≡ Some e → AreSumsOfNode tree.now e.node e.sums }
     requires nodes { (i : ℕ) (e : Source) → slice_get taken.now i ≡ Some e → IsNodeAt tree.now e }
     requires few { length taken.now ≤ 2147483647 }

@@ -1,11 +1,11 @@
 //! The check that a sheet may stand for a plane.
 
-ghost use Rattle.std.specs.Prelude.{◌≡◌, ◌+◌, ◌-◌, ◌*◌, ◌<◌, ◌≤◌, length, IsTrue, IfOk, All};
+ghost use Rattle.std.specs.Prelude.{◌≡◌, ℕ, ◌+◌, ◌-◌, ◌*◌, ◌<◌, ◌≤◌, length, IsTrue, IfOk, All};
 ghost use Rattle.comp_tree.specs.Raster.{is_defined};
 ghost use Rattle.comp_tree.specs.Windows.{IsInside, in_whole};
 ghost use Rattle.source_pick.specs.Sheets.{IsCopied, is_high_there};
 ghost use Rattle.source_sheet.specs.Laid.{windows_of, AreApartThere, window_at};
-ghost use Rattle.source_sheet.specs.Checks.{LiesInBoth, LieInBoth, IsInWindow, StaysWithin, IsSameAt, IsRowSame, AreSameAround, IsPixelCopied, ArePixelsCopied, AreNewlyMarked, AreAllApart, AreAllCopied, AreGoodPlaces, IsBetween, IsInRows, LiesInside};
+ghost use Rattle.source_sheet.specs.Checks.{LiesInBoth, LieInBoth, IsInWindow, StaysWithin, IsSameAt, IsRowSame, AreSameAround, IsPixelCopied, ArePixelsCopied, AreLowThere, AreWithin, AreNewlyMarked, AreAllApart, AreAllCopied, AreGoodPlaces, IsBetween, IsInRows, LiesInside};
 
 use crate::beside::{end_beside, reach_in};
 use crate::holding::hold_all;
@@ -110,7 +110,8 @@ fn are_rows_copied(
     true
 }
 
-// Whether each pixel of a row of the place is a copy.
+// Whether each pixel of a row of the place is a copy, where it is of at least the threshold: run by run of such pixels, whose
+// neighbours are so compared once for all. Most pixels are below it, and not looked at any further.
 fn is_row_copied(
     plane: &Plane,
     sheet: &Plane,
@@ -124,97 +125,113 @@ fn is_row_copied(
     ensures { IsTrue result → ArePixelsCopied plane.now sheet.now connect choice.now.threshold (windows_of place.now)
         (row * place.now.shape.width) ((row + 1) * place.now.shape.width) }
 {
-    for column in 0..place.shape.width {
-        if !is_copied_at(plane, sheet, connect, choice, place, column, row) {
+    let mut first = high_from(sheet, choice, place, row, 0);
+    while first < place.shape.width {
+        let end = low_from(sheet, choice, place, row, first + 1);
+        if !is_run_copied(plane, sheet, connect, place, row, first, end) {
             return false;
         }
+        first = high_from(sheet, choice, place, row, end);
     }
     true
 }
 
-// Whether the pixel in this column and row of the place is a copy. Most are below the threshold, and not looked at any
-// further.
-fn is_copied_at(
-    plane: &Plane,
-    sheet: &Plane,
-    connect: Connect,
-    choice: &Choice,
-    place: &Place,
-    column: u32,
-    row: u32,
-) -> bool
-    requires placed { LiesInBoth plane.now.shape sheet.now.shape place.now }
+// Whether the sheet's pixel in this column and row of the place has at least the threshold.
+#[inline(always)]
+fn is_high_at(sheet: &Plane, choice: &Choice, place: &Place, row: u32, column: u32) -> bool
+    requires inside { IsInside sheet.now.shape (windows_of place.now).to }
     requires column { column < place.now.shape.width }
     requires row { row < place.now.shape.height }
-    ensures { IsTrue result → IsTrue (is_high_there sheet.now choice.now.threshold (windows_of place.now).to (row * place.now.shape.width + column))
-        → IsPixelCopied plane.now sheet.now connect (windows_of place.now) (row * place.now.shape.width + column) }
+    ensures { IsTrue (is_high_there sheet.now choice.now.threshold (windows_of place.now).to (row * place.now.shape.width + column))
+        → IsTrue result }
 {
     let there = pixel_at(sheet.shape(), column + place.to_left, row + place.to_top);
-    if !sheet.is_at_least(choice.threshold, there) {
-        return true;
-    }
-    is_pixel_copied(plane, sheet, connect, place, column, row)
+    sheet.is_at_least(choice.threshold, there)
 }
 
-// Whether the pixel in this column and row of the place is a copy, with what is around it.
-fn is_pixel_copied(
+// The first column from this one on in which it has, or the end of the row.
+fn high_from(sheet: &Plane, choice: &Choice, place: &Place, row: u32, column: u32) -> u32
+    requires inside { IsInside sheet.now.shape (windows_of place.now).to }
+    requires column { column ≤ place.now.shape.width }
+    requires row { row < place.now.shape.height }
+    ensures from { column ≤ result }
+    ensures within { result ≤ place.now.shape.width }
+    ensures low { AreLowThere sheet.now choice.now.threshold (windows_of place.now).to
+        (row * place.now.shape.width + column) (row * place.now.shape.width + result) }
+{
+    for x in column..place.shape.width {
+        if is_high_at(sheet, choice, place, row, x) {
+            return x;
+        }
+    }
+    place.shape.width
+}
+
+// The first one in which it hasn't.
+fn low_from(sheet: &Plane, choice: &Choice, place: &Place, row: u32, column: u32) -> u32
+    requires inside { IsInside sheet.now.shape (windows_of place.now).to }
+    requires column { column ≤ place.now.shape.width }
+    requires row { row < place.now.shape.height }
+    ensures from { column ≤ result }
+    ensures within { result ≤ place.now.shape.width }
+{
+    for x in column..place.shape.width {
+        if !is_high_at(sheet, choice, place, row, x) {
+            return x;
+        }
+    }
+    place.shape.width
+}
+
+// Whether each pixel of a run is a copy, with what is around it: of those in this row of the place from column `first` up to `end`.
+fn is_run_copied(
     plane: &Plane,
     sheet: &Plane,
     connect: Connect,
     place: &Place,
-    column: u32,
     row: u32,
+    first: u32,
+    end: u32,
 ) -> bool
     requires placed { LiesInBoth plane.now.shape sheet.now.shape place.now }
-    requires column { column < place.now.shape.width }
     requires row { row < place.now.shape.height }
-    ensures { IsTrue result → IsPixelCopied plane.now sheet.now connect (windows_of place.now) (row * place.now.shape.width + column) }
+    requires some { first < end }
+    requires end { end ≤ place.now.shape.width }
+    ensures { IsTrue result → (x : ℕ) → first ≤ x → x < end
+        → IsPixelCopied plane.now sheet.now connect (windows_of place.now) (row * place.now.shape.width + x) }
 {
-    if !are_same_around(plane, sheet, connect, place, column, row) {
+    if !are_same_around(plane, sheet, connect, place, row, first, end) {
         return false;
     }
-    if is_inner(place.shape, column, row) {
+    if is_inner(place.shape, row, first, end) {
         return true;
     }
-    has_around(
-        plane,
-        connect,
-        place.left,
-        place.top,
-        place.shape,
-        column,
-        row,
-    ) && has_around(
-        sheet,
-        connect,
-        place.to_left,
-        place.to_top,
-        place.shape,
-        column,
-        row,
-    )
+    stay_within(plane, sheet, connect, place, row, first, end)
 }
 
-// Whether the pixel in this column and row, and each of its neighbours within the window, is the same in both planes.
+// Whether the pixels of a run, and all their neighbours within the window, are the same in both planes.
 fn are_same_around(
     plane: &Plane,
     sheet: &Plane,
     connect: Connect,
     place: &Place,
-    column: u32,
     row: u32,
+    first: u32,
+    end: u32,
 ) -> bool
     requires placed { LiesInBoth plane.now.shape sheet.now.shape place.now }
-    requires column { column < place.now.shape.width }
     requires row { row < place.now.shape.height }
-    ensures { IsTrue result → AreSameAround plane.now sheet.now connect (windows_of place.now) column row place.now.shape.height }
+    requires some { first < end }
+    requires end { end ≤ place.now.shape.width }
+    ensures { IsTrue result → (x : ℕ) → first ≤ x → x < end
+        → AreSameAround plane.now sheet.now connect (windows_of place.now) x row place.now.shape.height }
 {
     let bottom = end_beside(row, 1, place.shape.height);
     for y in row.saturating_sub(1)..bottom {
         let reach = reach_in(connect, row, y);
-        let first = column.saturating_sub(reach);
-        let end = end_beside(column, reach, place.shape.width);
-        if !is_row_same(plane, sheet, place, y, first, end) {
+        let from = first.saturating_sub(reach);
+        let to = end_beside(end - 1, reach, place.shape.width);
+        if !is_row_same(plane, sheet, place, y, from, to) {
             return false;
         }
     }
@@ -250,13 +267,46 @@ fn is_same(value: Option<i64>, copy: Option<i64>) -> bool
     }
 }
 
-// Whether the window has a pixel on each side of this column and row: then nothing that is adjacent to that pixel lies beyond.
-fn is_inner(shape: Shape, column: u32, row: u32) -> bool
-    requires column { column < shape.width }
+// Whether the window has a pixel on each side of a run: then nothing that is adjacent to its pixels lies beyond.
+fn is_inner(shape: Shape, row: u32, first: u32, end: u32) -> bool
     requires row { row < shape.height }
-    ensures { IsTrue result → LiesInside shape column row }
+    requires end { end ≤ shape.width }
+    ensures { IsTrue result → (x : ℕ) → first ≤ x → x < end → LiesInside shape x row }
 {
-    0 < column && column + 1 < shape.width && 0 < row && row + 1 < shape.height
+    0 < first && end < shape.width && 0 < row && row + 1 < shape.height
+}
+
+// Whether what is adjacent to the pixels of a run lies in the windows.
+fn stay_within(
+    plane: &Plane,
+    sheet: &Plane,
+    connect: Connect,
+    place: &Place,
+    row: u32,
+    first: u32,
+    end: u32,
+) -> bool
+    requires placed { LiesInBoth plane.now.shape sheet.now.shape place.now }
+    requires row { row < place.now.shape.height }
+    requires end { end ≤ place.now.shape.width }
+    ensures { IsTrue result → AreWithin plane.now sheet.now connect (windows_of place.now) row first end }
+{
+    for x in first..end {
+        if !has_around(plane, connect, place.left, place.top, place.shape, x, row)
+            || !has_around(
+                sheet,
+                connect,
+                place.to_left,
+                place.to_top,
+                place.shape,
+                x,
+                row,
+            )
+        {
+            return false;
+        }
+    }
+    true
 }
 
 // Whether what is adjacent to the pixel in this column and row of the window lies in the window.
