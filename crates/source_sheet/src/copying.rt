@@ -10,6 +10,7 @@ use crate::layout::Layout;
 use crate::sheet::Place;
 use comp_tree::{Canvas, Connect, Plane};
 use costs::OutOfMemory;
+use source_pick::Choice;
 use std::alloc::Global;
 
 /// The sheet with each group at its place, and with the pixels beside it. All others are undefined.
@@ -17,6 +18,7 @@ pub(crate) fn copy_groups(
     alloc: Global,
     plane: &Plane,
     connect: Connect,
+    choice: &Choice,
     groups: &Groups,
     layout: &Layout,
 ) -> Result<Plane, OutOfMemory>
@@ -30,6 +32,7 @@ pub(crate) fn copy_groups(
         copy_group(
             plane,
             connect,
+            choice,
             &groups.pixels,
             start,
             end,
@@ -45,6 +48,7 @@ pub(crate) fn copy_groups(
 fn copy_group(
     plane: &Plane,
     connect: Connect,
+    choice: &Choice,
     pixels: &[u32],
     start: usize,
     end: usize,
@@ -57,12 +61,20 @@ fn copy_group(
     ensures same_bound { canvas.new.most ≡ canvas.old.most }
 {
     for k in start..end.min(pixels.len()) {
-        copy_around(plane, connect, pixels[k], place, canvas);
+        copy_around(plane, connect, choice, pixels[k], place, canvas);
     }
 }
 
-// Copies a pixel and its neighbours, row by row.
-fn copy_around(plane: &Plane, connect: Connect, p: u32, place: &Place, canvas: &mut Canvas)
+// Copies a pixel and its neighbours, row by row. Where the pixel before it is high too, that one is of its group, and most of these are
+// copied with it.
+fn copy_around(
+    plane: &Plane,
+    connect: Connect,
+    choice: &Choice,
+    p: u32,
+    place: &Place,
+    canvas: &mut Canvas,
+)
     requires pixel { p < length plane.now.values }
     requires within { HasValuesWithin canvas.old.most plane.now.values }
     ensures same_size { length canvas.new.values ≡ length canvas.old.values }
@@ -71,9 +83,14 @@ fn copy_around(plane: &Plane, connect: Connect, p: u32, place: &Place, canvas: &
     let whole = plane.shape();
     let column = p % whole.width;
     let row = p / whole.width;
+    let follows = 0 < column && plane.is_at_least(choice.threshold, p - 1);
     for y in row.saturating_sub(1)..end_beside(row, 1, whole.height) {
         let reach = reach_in(connect, row, y);
-        let first = column.saturating_sub(reach);
+        let first = if follows {
+            column + reach
+        } else {
+            column.saturating_sub(reach)
+        };
         let end = end_beside(column, reach, whole.width);
         copy_row(plane, y, first, end, place, canvas);
     }

@@ -47,7 +47,7 @@ pub fn lay_out(
     let Some(layout) = lay_groups(alloc, whole, &groups)? else {
         return Ok(None);
     };
-    let copy = copy_groups(alloc, plane, connect, &groups, &layout)?;
+    let copy = copy_groups(alloc, plane, connect, choice, &groups, &layout)?;
     let places = layout.places;
     let good = is_laid_out(
         alloc,
