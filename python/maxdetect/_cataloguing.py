@@ -2,6 +2,7 @@
 import argparse
 import concurrent.futures
 import contextlib
+import functools
 import os
 import shlex
 import tempfile
@@ -19,6 +20,7 @@ from . import (
     _maps as maps,
     _planefiles as planefiles,
     _regions as regions,
+    _skyplaces as skyplaces,
     _tables as tables,
 )
 from ._errors import Mistake
@@ -176,6 +178,12 @@ def _told(filled: Callable, skies: list) -> Callable:
     return told
 
 
+def _load(task: Task, given: argparse.Namespace, number: int) -> None:
+    """Has loaded what the sources of one of the fields will be finished and written by."""
+    skyplaces.load(task.fields[number].plane.header)
+    tables.load(form_of(task, given))
+
+
 def done(task: Task, given: argparse.Namespace, tiles, progress) -> str:
     """Finds and writes a file's sources, and says so."""
     with about(task.output), whole_files(outputs_of(task, given)) as names, _maps(
@@ -188,6 +196,9 @@ def done(task: Task, given: argparse.Namespace, tiles, progress) -> str:
             filled = checks.writer({kind: each[number] for kind, each in shown.items()})
             told = _told(filled, skies) if given.report else filled
             more = {"bands": task.bands[number], "told": told, "progress": progress}
+            # In one process it would take room in memory beside the windows, and the time of their work.
+            if tiles is not None:
+                more["meanwhile"] = functools.partial(_load, task, given, number)
             with _room_for_map(segments, field.shape) as room:
                 table = detection.sources(field, tiles, segments=segments, room=room, **more)
             _count_on(table, segments, sum(map(len, found)))

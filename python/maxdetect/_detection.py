@@ -124,6 +124,7 @@ def sources(
     bands: Optional[Dict[str, Field]] = None,
     told: Optional[Callable] = None,
     progress: Callable[[int], None] = lambda count: None,
+    meanwhile: Callable[[], None] = lambda: None,
     program: Optional[kernel.Path] = None,
 ) -> Rows:
     """The sources of a field with their photometry, in columns and rows of the image, numbered by their first pixels.
@@ -132,17 +133,17 @@ def sources(
     where none is wanted, `room` is such an array to work in.
     `bands` are fields with the same image and others to measure in: each adds columns with its name. `told` is called
     with the detector, the sky beside the sources of what is measured in and that with them, and the table.
-    `progress` is called with 1 for each tile, after a first call with 0, and with 0 now and then. The table's meta has
-    the program's threshold (THRESH), the width by which the image was smoothed (SMOOTH) and that of its point sources
-    (FWHM, where it has enough of them), whether FLUX_TOTAL is told by point sources (GROWTH), how many sources were
-    left out as peaks of noise on faint light (NCLEANED), and the noise: SIGMA, or with a weight map NOISE, about the
-    middle of the image.
+    `progress` is called with 1 for each tile, after a first call with 0, and with 0 now and then; `meanwhile` when the
+    first tiles are at work in the executor. The table's meta has the program's threshold (THRESH), the width by which
+    the image was smoothed (SMOOTH) and that of its point sources (FWHM, where it has enough of them), whether
+    FLUX_TOTAL is told by point sources (GROWTH), how many sources were left out as peaks of noise on faint light
+    (NCLEANED), and the noise: SIGMA, or with a weight map NOISE, about the middle of the image.
     """
     detector, wanted = _detector(field, executor, program), segments is not None
     segments = room if segments is None else segments
     segments = numpy.zeros(field.shape, dtype="i4") if segments is None else segments
     progress(0)
-    found = _found(detector, executor, segments, progress)
+    found = _found(detector, executor, segments, progress, meanwhile)
     skies = _Skies.of(detector, segments, executor)
     table = _measured(detector, skies, found.rows, segments, executor, bands or {}, progress)
     if told is not None:
@@ -183,13 +184,14 @@ def _found(
     executor: Optional[concurrent.futures.Executor],
     segments: numpy.ndarray,
     progress: Callable[[int], None],
+    meanwhile: Callable[[], None],
 ) -> _Found:
     """The sources of all tiles; the map has them."""
     gathered, plan = joining.Gathered(segments, progress), detector.plan
     with _at_work(detector, executor, plan) as pool:
 
         def made(tiles: List[Tuple[Box, Box]]) -> Iterator[holding.Piece]:
-            return each(pool, _Tile(detector), tiles)
+            return each(pool, _Tile(detector), tiles, meanwhile)
 
         left = plan.looked_at(made, gathered.take)
         if left and detector.whole.pixels <= plan.largest:

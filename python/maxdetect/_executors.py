@@ -12,9 +12,18 @@ def _in_flight(executor: concurrent.futures.Executor) -> int:
     return 1 + (getattr(executor, "_max_workers", None) or 2 * (os.cpu_count() or 1))
 
 
-def each(executor: Optional[concurrent.futures.Executor], work: Callable, items: Iterable) -> Iterator:
+def _nothing() -> None:
+    """Where nothing is to be done meanwhile."""
+
+
+def each(
+    executor: Optional[concurrent.futures.Executor],
+    work: Callable,
+    items: Iterable,
+    meanwhile: Callable[[], None] = _nothing,
+) -> Iterator:
     """What a function gives for each item, in order; a few items ahead are at work in the executor. None: one after
-    the other, here.
+    the other, here. `meanwhile` is called when the first items are at work, and not where none are at work elsewhere.
     """
     if executor is None:
         yield from map(work, items)
@@ -23,6 +32,7 @@ def each(executor: Optional[concurrent.futures.Executor], work: Callable, items:
     try:
         for item in itertools.islice(items, _in_flight(executor)):
             waiting.append(executor.submit(work, item))
+        meanwhile()
         while waiting:
             result = waiting.pop(0).result()
             waiting += [executor.submit(work, item) for item in itertools.islice(items, 1)]

@@ -14,7 +14,7 @@ from ._rows import Rows
 if TYPE_CHECKING:
     from astropy.wcs import WCS
 
-__all__ = ["WCS_CARDS", "add_columns", "icrs_places", "wcs_of"]
+__all__ = ["WCS_CARDS", "add_columns", "icrs_places", "load", "wcs_of"]
 
 # The cards that make up a WCS of the first two axes, for any of its versions.
 WCS_CARDS = re.compile(
@@ -27,13 +27,26 @@ DATES = ("DATE-OBS", "MJD-OBS")
 WCS_NUMBERS = re.compile(r"C(RVAL|RPIX|DELT|ROTA)[12]|(PC|CD)[12]_[12]|PC00[12]00[12]|PV[12]_\d+|LONPOLE|LATPOLE")
 
 
+def _has_cards(header: fits.Header) -> bool:
+    """The header has cards of a WCS, other than dates."""
+    return any(WCS_CARDS.fullmatch(name) and name not in DATES for name in header)
+
+
+def load(header: fits.Header) -> None:
+    """Has astropy loaded what a header's WCS wants, where it has one: that takes longer than a small image, and may be
+    done while others work.
+    """
+    if _has_cards(header):
+        from astropy import wcs  # noqa: F401
+
+
 def wcs_of(header: Union[None, fits.Header, "WCS"]) -> Optional["WCS"]:
     """The celestial WCS of a header's first two axes, or None where it has none that can be read, which is warned
     of.
     """
     if header is None or not isinstance(header, fits.Header):
         return header if header is not None and header.has_celestial else None
-    if not any(WCS_CARDS.fullmatch(name) and name not in DATES for name in header):
+    if not _has_cards(header):
         return None
     from astropy.wcs import WCS, FITSFixedWarning
 

@@ -17,7 +17,7 @@ from ._wholefiles import whole_file
 if TYPE_CHECKING:
     from astropy.table import Table
 
-__all__ = ["format_of", "write"]
+__all__ = ["format_of", "load", "write"]
 
 # Cards of a table's `meta` that FITS keeps for the structure of a file.
 STRUCTURE = re.compile(
@@ -34,6 +34,14 @@ def format_of(path: Union[str, os.PathLike]) -> str:
     if end not in FORMATS:
         raise Mistake(f"{path}: a catalogue's name ends in {', '.join(FORMATS)}")
     return FORMATS[end]
+
+
+def load(kind: str) -> None:
+    """Has loaded what a catalogue of this kind is written by: that may be done while others work."""
+    if kind == "ldac":
+        from . import _ldac  # noqa: F401
+    elif kind != "fits":
+        from astropy import table, units  # noqa: F401
 
 
 def _fits_value(value) -> bool:

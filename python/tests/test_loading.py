@@ -1,4 +1,5 @@
 """What a small image doesn't load, and that what stands in its place gives the same to the last bit."""
+import ast
 import os
 import subprocess
 import sys
@@ -9,7 +10,7 @@ from astropy import units
 from astropy.io import fits
 from scipy import ndimage
 
-from conftest import TOP
+from conftest import TOP, add_star
 from maxdetect import _sky as sky, _smoothing as smoothing, _unittexts as unittexts
 from maxdetect._finishing import COLUMNS
 
@@ -22,6 +23,10 @@ HEAVY = (
     "scipy.special",
     "tqdm",
 )
+SKY = {
+    **{"CTYPE1": "RA---TAN", "CTYPE2": "DEC--TAN", "CRVAL1": 150.0, "CRVAL2": 2.0, "CRPIX1": 500.0, "CRPIX2": 32.0},
+    **{"CDELT1": -1e-4, "CDELT2": 1e-4},
+}
 SCRIPT = f"""
 import sys
 from maxdetect import _cli as cli
@@ -38,6 +43,31 @@ def test_a_small_image_loads_no_more_than_it_wants(tmp_path, stars):
     done = subprocess.run(words, cwd=tmp_path, env=environment, stdout=subprocess.PIPE, text=True, check=True)
     assert done.stdout.splitlines()[-1] == "[]"
     assert "MAG_AUTO" in fits.getdata(tmp_path / "cat.fits", 1).names
+
+
+WIDE_SCRIPT = f"""
+import sys
+from maxdetect import _cataloguing as cataloguing, _cli as cli
+finished = cataloguing._finished
+def watched(*given):
+    print([name for name in {HEAVY} if name in sys.modules])
+    return finished(*given)
+cataloguing._finished = watched
+sys.exit(cli.main(sys.argv[1:]))
+"""
+
+
+@pytest.mark.parametrize("cards, loaded", [({}, []), (SKY, ["astropy.table", "astropy.units", "astropy.wcs"])])
+def test_what_the_end_wants_is_loaded_while_others_work(tmp_path, cards, loaded):
+    image = numpy.random.default_rng(3).normal(100, 5, (64, 1100))
+    for x in range(40, 1080, 60):
+        add_star(image, x, 30, 9e3)
+    fits.writeto(tmp_path / "image.fits", image.astype("f4"), fits.Header(cards))
+    words = [sys.executable, "-c", WIDE_SCRIPT, "image.fits", "-o", "cat.fits", "--workers", "2"]
+    environment = {**os.environ, "PYTHONPATH": str(TOP / "python")}
+    done = subprocess.run(words, cwd=tmp_path, env=environment, stdout=subprocess.PIPE, text=True, check=True)
+    assert set(loaded) <= set(ast.literal_eval(done.stdout.splitlines()[0])) and (loaded or done.stdout[:2] == "[]")
+    assert ("RA" in fits.getdata(tmp_path / "cat.fits", 1).names) == bool(loaded)
 
 
 def spelled(text):
