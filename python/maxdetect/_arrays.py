@@ -25,6 +25,8 @@ class ArrayPlane:
     is masked.
     """
 
+    mapped = False
+
     def __init__(self, image: numpy.ndarray, label: str = "the image"):
         if numpy.ndim(image) != 2 or not numpy.size(image):
             raise ValueError(f"an image has two dimensions and a pixel, not the sides {numpy.shape(image)}")

@@ -35,8 +35,8 @@ def columns(
     """The photometry of a detector's sources, whose map this is, in the image that another field has to measure in."""
     other = copy.copy(detector)
     other.field, other.settings = field, field.settings
-    own = measuring.sky_of_values(other)
+    own = measuring.sky_of_values(other, executor)
     beside = measuring.sky_beside(other, segments, executor, own)
-    points = measuring.points_of(other, beside)
+    points = measuring.points_of(other, beside, executor)
     found = measuring.measured(other, beside, points, table, segments, executor, progress, own)
     return Rows({f"{name}_{band}": found[name] for name in found.colnames if _has(name)})

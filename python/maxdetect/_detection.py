@@ -2,7 +2,6 @@
 import concurrent.futures
 import contextlib
 import dataclasses
-import functools
 import multiprocessing
 import threading
 from typing import Any, Callable, Dict, Iterator, List, NamedTuple, Optional, Tuple, Union
@@ -28,7 +27,7 @@ from . import (
 )
 from ._bands import columns as band_columns
 from ._executors import each
-from ._fields import Field, noise_of, sky_of
+from ._fields import Field, in_parts, noise_of, sky_of
 from ._flags import CUT, WIDE
 from ._limits import TILE
 from ._rows import Rows, side_by_side
@@ -161,11 +160,11 @@ def _detector(
     field: Field, executor: Optional[concurrent.futures.Executor], program: Optional[kernel.Path]
 ) -> Detector:
     """What looks at a field's windows, when its sky is known, and the pixels that cosmic rays have hit."""
-    # A small image is done before it is handed out.
-    found = sky_of(field, functools.partial(each, executor if min(field.shape) >= TILE else None))
+    parts = in_parts(field, executor)
+    found = sky_of(field, parts)
     if field.settings.cosmic_rays:
         field = dataclasses.replace(field, struck=cosmic.struck(field, found))
-    detector = Detector(field, found, looks.way(field, found), program)
+    detector = Detector(field, found, looks.way(field, found, parts), program)
     if len(detector.plan.cores()) == 1:
         detector.share_strips()
     return detector
@@ -247,9 +246,9 @@ class _Skies(NamedTuple):
         cls, detector: Detector, segments: numpy.ndarray, executor: Optional[concurrent.futures.Executor]
     ) -> "_Skies":
         """Those of a field whose map this is."""
-        own = measuring.sky_of_values(detector)
+        own = measuring.sky_of_values(detector, executor)
         beside = measuring.sky_beside(detector, segments, executor, own)
-        return cls(own, beside, measuring.points_of(detector, beside))
+        return cls(own, beside, measuring.points_of(detector, beside, executor))
 
 
 def _measured(detector: Detector, skies: _Skies, table: Rows, segments: numpy.ndarray, executor, bands, progress):

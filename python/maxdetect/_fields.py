@@ -1,16 +1,22 @@
 """An image with what belongs to it."""
+import concurrent.futures
 import dataclasses
+import functools
 import math
-from typing import Callable, Generic, List, Optional, Tuple, Union
+from typing import Callable, Generic, Iterable, List, Optional, Tuple, Union
 
 import numpy
 
 from . import _sky as sky
 from ._errors import Mistake
+from ._executors import each
 from ._planes import AnyPlane, OwnPlane
 from ._settings import Settings
 
-__all__ = ["Field", "Settings", "noise_of", "sky_of"]
+__all__ = ["Each", "Field", "Settings", "in_parts", "noise_of", "sky_of"]
+
+# What calls a function for each of several items, in order, as `map` does.
+Each = Callable[[Callable, Iterable], Iterable]
 
 
 def relative_noise(weights: numpy.ndarray, kind: str) -> numpy.ndarray:
@@ -109,10 +115,17 @@ def noise_of(field: Field, found: sky.Sky, rows: slice, columns: slice) -> Union
     return found.noises(rows, columns) if field.settings.local else found.noise
 
 
-def sky_of(field: Field, each: Callable = map) -> sky.Sky:
-    """The sky of a field; `each` calls a function for each of several items, as `map` does. Raises Mistake where it has
-    none to speak of.
+def in_parts(field: Field, executor: Optional[concurrent.futures.Executor]) -> Each:
+    """What works on parts of a field that take a few hundredths of a second each: the executor, but for a small field,
+    which is done before it is handed out, and where other processes would be sent its pixels with each part.
     """
+    threads = isinstance(executor, concurrent.futures.ThreadPoolExecutor)
+    shared = min(field.shape) >= field.settings.tile and (threads or all(plane.mapped for plane in field.planes))
+    return functools.partial(each, executor if shared else None)
+
+
+def sky_of(field: Field, each: Each = map) -> sky.Sky:
+    """The sky of a field, whose parts are looked at by `each`. Raises Mistake where it has none to speak of."""
     relative = None if field.weights is None else field.relative
     try:
         found = sky.of(field.image, field.shape, field.settings.mesh or 64, relative, each)

@@ -5,12 +5,12 @@ All of it is told once for the whole image, so that it is the same in every wind
 import dataclasses
 import functools
 import math
-from typing import Dict, Iterator, List, Optional, Tuple, Union
+from typing import Dict, List, Optional, Tuple, Union
 
 import numpy
 
 from . import _pointlike as pointlike, scaling, _sky as sky, _smoothing as smoothing
-from ._fields import Field, noise_of
+from ._fields import Each, Field, noise_of
 
 __all__ = ["Way", "electrons", "point_sources", "seen", "way"]
 
@@ -117,24 +117,43 @@ def _windows(shape: Tuple[int, int]) -> List[Tuple[slice, slice]]:
     return [(rows, columns) for rows in sides[0] for columns in sides[1]]
 
 
-def point_sources(field: Field, found: sky.Sky) -> Optional[pointlike.PointSources]:
-    """What the point sources of a field with this sky look like, or None where it has too few."""
+@dataclasses.dataclass
+class _Light:
+    """How the light of bright sources grows in a window of a field with this sky."""
 
-    def looked_at() -> Iterator[Tuple[numpy.ndarray, float]]:
-        for rows, columns in _windows(field.shape):
-            limit = numpy.inf
-            if field.own_saturation is not None:
-                limit = float((field.own_saturation - found.zero) / found.noise)
-            yield seen(field, found, 0, rows, columns), limit
+    field: Field
+    found: sky.Sky
 
-    return pointlike.of(looked_at())
+    def __call__(self, window: Tuple[slice, slice]) -> numpy.ndarray:
+        field, found, limit = self.field, self.found, numpy.inf
+        if field.own_saturation is not None:
+            limit = float((field.own_saturation - found.zero) / found.noise)
+        return pointlike.growth(seen(field, found, 0, *window), limit)
 
 
-def _noise_behind(field: Field, found: sky.Sky, smooth: float) -> float:
+def point_sources(field: Field, found: sky.Sky, each: Each = map) -> Optional[pointlike.PointSources]:
+    """What the point sources of a field with this sky look like, or None where it has too few; `each` works on its
+    parts.
+    """
+    return pointlike.told(each(_Light(field, found), _windows(field.shape)))
+
+
+@dataclasses.dataclass
+class _Rows:
+    """Reads rows of a field with this sky that is smoothed."""
+
+    field: Field
+    found: sky.Sky
+    smooth: float
+
+    def __call__(self, rows: slice) -> numpy.ndarray:
+        return seen(self.field, self.found, self.smooth, rows, slice(0, self.field.shape[1]))
+
+
+def _noise_behind(field: Field, found: sky.Sky, smooth: float, each: Each = map) -> float:
     """The noise of the smoothed field, or a pixel's own where nothing is told of it."""
-    columns = slice(0, field.shape[1])
     try:
-        noise = smoothing.noise_behind(lambda rows: seen(field, found, smooth, rows, columns), field.shape[0], smooth)
+        noise = smoothing.noise_behind(_Rows(field, found, smooth), field.shape[0], smooth, each)
     except sky.Undefined:
         return 1.0
     return noise if noise > 0 else 1.0
@@ -163,16 +182,16 @@ def _skewed(sigmas: float, electrons: Optional[float], smooth: float) -> float:
     return sigmas + skewness * max(sigmas**2 - 1, 0) / 6
 
 
-def way(field: Field, found: sky.Sky) -> Way:
-    """How a field with this sky is looked at, by its settings and by what it shows itself."""
+def way(field: Field, found: sky.Sky, each: Each = map) -> Way:
+    """How a field with this sky is looked at, by its settings and by what it shows itself, its parts by `each`."""
     settings = field.settings
     found = found if settings.mesh else found.flat()
-    points = point_sources(field, found)
+    points = point_sources(field, found, each)
     width = settings.fwhm or (points.width if points else USUAL)
     smooth = 0.0 if settings.fwhm == 0 else max(PART * width, min(width, NARROW))
     noise, area = 1.0, UNSMOOTHED_AREA
     if smooth:
-        noise = _noise_behind(field, found, smooth)
+        noise = _noise_behind(field, found, smooth, each)
         area = max(LEAST_AREA, round(AREA * smooth**2))
     own = electrons(field, found)
     sigmas = settings.sigmas

@@ -27,7 +27,7 @@ from . import (
 )
 from ._errors import Mistake
 from ._executors import each
-from ._fields import Field, noise_of
+from ._fields import Field, in_parts, noise_of
 from ._rows import Rows, behind_each_other
 from ._windows import Box, moved
 
@@ -55,7 +55,7 @@ class _Row:
         return beside.of_row(residual, undefined, segments, within, self.found.mesh)
 
 
-def sky_of_values(detector: "Detector") -> Optional[sky.Sky]:
+def sky_of_values(detector: "Detector", executor: Executor = None) -> Optional[sky.Sky]:
     """The sky of what a field is measured in; None where no pixel of that is defined. Raises Mistake where it has none
     to speak of.
     """
@@ -64,7 +64,8 @@ def sky_of_values(detector: "Detector") -> Optional[sky.Sky]:
         return found
     other = field.measured
     try:
-        found = sky.of(other.image, field.shape, found.mesh, None if other.weights is None else other.relative)
+        relative = None if other.weights is None else other.relative
+        found = sky.of(other.image, field.shape, found.mesh, relative, in_parts(other, executor))
     except sky.Undefined:
         return None
     except ValueError as error:
@@ -97,14 +98,17 @@ def sky_beside(
     return beside.joined(each(executor, _Row(detector, found), rows), found)
 
 
-def points_of(detector: "Detector", found: Optional[sky.Sky]) -> Optional[pointlike.PointSources]:
+def points_of(
+    detector: "Detector", found: Optional[sky.Sky], executor: Executor = None
+) -> Optional[pointlike.PointSources]:
     """The point sources of what a field is measured in, above this sky; None where it has too few."""
     field = detector.field
     if field.values is None:
         return detector.how.points
     if found is None or not found.noise > 0:
         return None
-    return looks.point_sources(dataclasses.replace(field.measured, weights=None, struck=None), found)
+    other = dataclasses.replace(field.measured, weights=None, struck=None)
+    return looks.point_sources(other, found, in_parts(other, executor))
 
 
 def noise_beside(field: Field, found: sky.Sky, own: sky.Sky, rows: slice, columns: slice) -> photometry.Numbers:

@@ -25,6 +25,10 @@ class AnyPlane(Protocol):
     def origin(self) -> int:
         """A whole number near its values, 0 unless 64 bits of floating point don't hold them."""
 
+    @property
+    def mapped(self) -> bool:
+        """It is sent to another process as its file's name, where the rows that are asked for are read."""
+
     def window(self, rows: slice, columns: slice = slice(None), less: int = 0) -> numpy.ndarray:
         """The pixels of some rows and columns less a whole number, NaN where they are undefined."""
 

@@ -9,7 +9,7 @@ from typing import Iterable, Optional, Tuple, Union
 import numpy
 import sep
 
-__all__ = ["FEWEST", "PointSources", "of"]
+__all__ = ["FEWEST", "PointSources", "growth", "of", "told"]
 
 # How many deviations of the noise a pixel of a source that is looked at has, how many such pixels there are, how
 # many sources are looked at in a window, the brightest first, and how many alike tell enough.
@@ -100,17 +100,25 @@ def _width(radii: numpy.ndarray, shares: numpy.ndarray) -> float:
     return 2 * float(numpy.interp(height[0] / 2, height[steps], middle[steps]))
 
 
-def of(windows: Iterable[Tuple[numpy.ndarray, float]]) -> Optional[PointSources]:
-    """The point sources of an image, or None where fewer than `FEWEST` bright ones are alike.
-
-    Windows of the image are given less its sky in deviations of its noise, as 32-bit floating-point numbers with NaN
-    where they are undefined, and beside each from which number on pixels are saturated.
+def growth(window: numpy.ndarray, limit: float) -> numpy.ndarray:
+    """The light of a window's bright sources within each of `RADII`, a row for each, where they stand alone and below a
+    limit. The window is an image's less its sky in deviations of its noise, as 32-bit floating-point numbers with NaN
+    where they are undefined.
     """
-    light = []
-    for window, limit in windows:
-        undefined = ~numpy.isfinite(window)
-        light.append(_growth(numpy.where(undefined, numpy.float32(0), window), undefined, limit))
-    growth = numpy.concatenate(light) if light else numpy.zeros((0, len(RADII)))
+    undefined = ~numpy.isfinite(window)
+    return _growth(numpy.where(undefined, numpy.float32(0), window), undefined, limit)
+
+
+def of(windows: Iterable[Tuple[numpy.ndarray, float]]) -> Optional[PointSources]:
+    """The point sources of an image by such windows, each with the number from which on pixels are saturated; None
+    where fewer than `FEWEST` bright ones are alike.
+    """
+    return told(growth(window, limit) for window, limit in windows)
+
+
+def told(light: Iterable[numpy.ndarray]) -> Optional[PointSources]:
+    """The same, by how the light of the sources of each window grows."""
+    growth = numpy.concatenate([numpy.zeros((0, len(RADII))), *light])
     growth = growth[(growth > 0).all(axis=1)]
     if len(growth) < FEWEST:
         return None

@@ -6,7 +6,7 @@ mean over 3 by 3 pixels lies three deviations of such means off, and those five 
 neither comes in steps on images of whole numbers, and a crowd of stars hardly moves them.
 """
 import dataclasses
-from typing import Callable, List, Optional, Tuple
+from typing import Callable, Iterator, List, Optional, Tuple
 
 import numpy
 
@@ -344,18 +344,75 @@ class Sky:
         return dataclasses.replace(self, levels=numpy.full((1, 1), numpy.median(self.levels)))
 
 
-def _bands(height: int, mesh: int):
-    return [slice(top, min(top + mesh, height)) for top in range(0, height, mesh)]
-
-
 @dataclasses.dataclass
-class _SecondLook:
-    """The second look at some rows of cells, whose numbers are given: by the first look at all of them."""
+class _Look:
+    """What is looked at by rows of cells: an image that is read by rows, with a map of its noise where it has one."""
 
     read: Reader
     relative: Optional[Reader]
     shape: Tuple[int, int]
     mesh: int
+
+    def rows(self, number: int) -> slice:
+        """The rows of pixels of a row of cells."""
+        return slice(number * self.mesh, min((number + 1) * self.mesh, self.shape[0]))
+
+    def parts(self) -> List[range]:
+        """The numbers of the rows of cells, some at a time."""
+        count = cells_along(self.shape[0], self.mesh)
+        return [range(first, min(first + AT_ONCE, count)) for first in range(0, count, AT_ONCE)]
+
+
+class _FirstLook(_Look):
+    """The first look at some rows of cells, whose numbers are given, and how many random numbers others draw before."""
+
+    def __call__(self, item: Tuple[range, int]) -> List[Tuple[numpy.ndarray, ...]]:
+        numbers, before = item
+        rng = numpy.random.Generator(numpy.random.PCG64(1).advance(before))
+        return [self._row(self.rows(number), rng) for number in numbers]
+
+    def _row(self, rows: slice, rng: numpy.random.Generator) -> Tuple[numpy.ndarray, ...]:
+        band = self.read(rows)
+        if self.relative is not None:
+            band = _defined_by(band, self.relative(rows))
+        return _first_row(band, self.mesh, rng)
+
+    def drawn(self, numbers: range, found: Optional[List[Tuple[numpy.ndarray, ...]]] = None) -> int:
+        """How many random numbers these rows of cells draw, by what was found there: at most, where nothing is known
+        yet.
+        """
+        step, count = max(1, self.mesh // SAMPLED), 0
+        for place, number in enumerate(numbers):
+            if found is None or found[place][3].any():
+                rows = self.rows(number)
+                count += cells_along(rows.stop - rows.start, step) * cells_along(self.mesh, step)
+        return count * cells_along(self.shape[1], self.mesh)
+
+
+def _first_looks(look: _FirstLook, each: Callable) -> List[Tuple[numpy.ndarray, ...]]:
+    """The first look at all rows of cells, with the random numbers that they have one after the other: those that are
+    at work are thought to draw all that they may, and looked at again where that was wrong and matters.
+    """
+    parts, drawn = look.parts(), 0
+    begun: List[int] = []
+    found: List[List[Tuple[numpy.ndarray, ...]]] = []
+
+    def items() -> Iterator[Tuple[range, int]]:
+        for part in parts:
+            begun.append(drawn + sum(map(look.drawn, parts[len(found) : len(begun)])))
+            yield part, begun[-1]
+
+    for part, rows in zip(parts, each(look, items())):
+        own = look.drawn(part, rows)
+        found.append(look((part, drawn)) if own and begun[len(found)] != drawn else rows)
+        drawn += own
+    return [row for part in found for row in part]
+
+
+@dataclasses.dataclass
+class _SecondLook(_Look):
+    """The second look at some rows of cells, whose numbers are given: by the first look at all of them."""
+
     zero: float
     guess: numpy.ndarray
     deviation: numpy.ndarray
@@ -364,7 +421,7 @@ class _SecondLook:
     def __call__(self, numbers: range) -> list:
         found, columns = [], slice(0, self.shape[1])
         for row in numbers:
-            rows = slice(row * self.mesh, min((row + 1) * self.mesh, self.shape[0]))
+            rows = self.rows(row)
             residual = (self.read(rows) - self.zero).astype("f4", copy=False)
             residual -= between(self.guess, self.mesh, rows, columns)
             relative = None if self.relative is None else self.relative(rows)
@@ -380,11 +437,7 @@ def of(
     `relative` reads a map of its noise, in any units; the deviations are then in these. `each` calls a function for
     each of several items, in order, as `map` does. Raises ValueError where no pixel is defined.
     """
-    rng, bands = numpy.random.default_rng(1), _bands(shape[0], mesh)
-    first = [
-        _first_row(read(rows) if relative is None else _defined_by(read(rows), relative(rows)), mesh, rng)
-        for rows in bands
-    ]
+    first = _first_looks(_FirstLook(read, relative, shape, mesh), each)
     zero = numpy.concatenate([row[0] for row in first])
     if not numpy.isfinite(zero).any():
         raise Undefined("no pixel of the image is defined")
@@ -396,10 +449,9 @@ def of(
     if middle and not LEAST_NOISE < middle < MOST_NOISE:
         raise ValueError(f"its noise of {middle:.3g} is too far from 1; scale the image")
     if relative is not None:
-        deviation = _in_units(deviation, relative, bands, mesh)
+        deviation = _in_units(deviation, _Medians(relative, None, shape, mesh), each)
     look = _SecondLook(read, relative, shape, mesh, zero, guess, deviation, [row[3] for row in first])
-    parts = (range(row, min(row + AT_ONCE, len(bands))) for row in range(0, len(bands), AT_ONCE))
-    second = [row for part in each(look, parts) for row in part]
+    second = [row for part in each(look, look.parts()) for row in part]
     mean, spread, count, there = (numpy.array(part) for part in zip(*second))
     return Sky(shape, mesh, zero, *_joined(guess, mean, spread, count, there))
 
@@ -409,14 +461,21 @@ def _defined_by(band: numpy.ndarray, relative: numpy.ndarray) -> numpy.ndarray:
     return numpy.where(numpy.isfinite(relative), band, numpy.nan)
 
 
-def _in_units(deviation: numpy.ndarray, relative: Reader, bands: list, mesh: int) -> numpy.ndarray:
+class _Medians(_Look):
+    """The medians of a noise map in the cells of some rows of them, whose numbers are given."""
+
+    def __call__(self, numbers: range) -> List[numpy.ndarray]:
+        found, step = [], max(1, self.mesh // 8)
+        for number in numbers:
+            cells = _in_cells(self.read(self.rows(number)), self.mesh, numpy.nan)[::step, :, ::step].swapaxes(0, 1)
+            cells = numpy.sort(cells.reshape(len(cells), -1), axis=1)
+            found.append(cells[numpy.arange(len(cells)), numpy.isfinite(cells).sum(axis=1) // 2])
+        return found
+
+
+def _in_units(deviation: numpy.ndarray, look: _Medians, each: Callable) -> numpy.ndarray:
     """The deviations of the cells in units of the noise map: over its median in each cell."""
-    found = []
-    for rows in bands:
-        cells = _in_cells(relative(rows), mesh, numpy.nan)[:: max(1, mesh // 8), :, :: max(1, mesh // 8)].swapaxes(0, 1)
-        cells = numpy.sort(cells.reshape(len(cells), -1), axis=1)
-        found.append(cells[numpy.arange(len(cells)), numpy.isfinite(cells).sum(axis=1) // 2])
-    grid = numpy.array(found)
+    grid = numpy.array([row for part in each(look, look.parts()) for row in part])
     return deviation / filled(grid, numpy.isfinite(grid))
 
 

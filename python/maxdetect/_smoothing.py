@@ -1,6 +1,6 @@
 """Smoothing by a Gaussian, the same in every window of an image, and the noise that is left behind it."""
 import math
-from typing import Callable
+from typing import Callable, Iterable
 
 import numpy
 
@@ -155,17 +155,20 @@ def _down(image: numpy.ndarray, weights: numpy.ndarray) -> numpy.ndarray:
     return sums
 
 
-def noise_behind(read: Callable[[slice], numpy.ndarray], height: int, width: float) -> float:
+def noise_behind(
+    read: Callable[[slice], numpy.ndarray], height: int, width: float, each: Callable[..., Iterable] = map
+) -> float:
     """The standard deviation of a smoothed image, beside its sources.
 
-    `read` gives some of its rows. It is looked at in narrow cells, of rows of cells that lie evenly over the image.
+    `read` gives some of its rows; `each` calls it for several, as `map` does. It is looked at in narrow cells, of rows
+    of cells that lie evenly over the image.
     """
     side = max(LEAST_CELL, math.ceil(CELL * width))
     tops = numpy.arange(0, max(height - side, 0) + 1, side)
     chosen = tops[numpy.linspace(0, len(tops) - 1, min(len(tops), MOST_BANDS)).astype(int)]
     # Rows of cells that lie side by side are read at once.
     runs = numpy.split(chosen, numpy.flatnonzero(numpy.diff(chosen) != side) + 1)
-    bands = numpy.concatenate([read(slice(int(run[0]), min(int(run[-1]) + side, height))) for run in runs])
+    bands = numpy.concatenate([*each(read, [slice(int(run[0]), min(int(run[-1]) + side, height)) for run in runs])])
     # A cell's own mean takes a part of what its few pixels vary together.
     lost = min(0.9, correlated(width) / side**2)
     return sky.of(lambda rows: bands[rows], bands.shape, side).noise / math.sqrt(1 - lost)

@@ -1,4 +1,7 @@
 """The sky and its noise, and the scaling by it."""
+import concurrent.futures
+import functools
+
 import numpy
 import pytest
 from scipy import ndimage
@@ -7,6 +10,7 @@ import maxdetect
 from conftest import add_star
 from maxdetect import scaling, _sky as sky
 from maxdetect._estimates import of_array
+from maxdetect._executors import each
 
 
 @pytest.mark.parametrize("sigma", [0.8, 1, 1.5, 2.2, 5, 30, 1000])
@@ -113,3 +117,39 @@ def test_smoothing():
     assert (
         numpy.isnan(smooth[0, 0]) and smooth[2, 2] == 4 and smooth[2, 1] == 2 and smooth[1, 1] == pytest.approx(16 / 15)
     )
+
+
+def parts_of(kind, side=8):
+    """An image of some fifty rows of cells, and a map of its noise."""
+    rng = numpy.random.default_rng(9)
+    image = rng.normal(100, 3, (52 * side - 3, 9 * side + 2)).astype("f4")
+    if kind != "fractions":
+        numpy.rint(image, out=image)
+    if kind == "both":
+        image[14 * side : 30 * side] += rng.uniform(0, 0.4, (16 * side, image.shape[1])).astype("f4")
+    return image, numpy.where(numpy.arange(image.shape[1]) < 30, 1, rng.uniform(2, 3, image.shape)).astype("f4")
+
+
+@pytest.mark.parametrize("kind", ["fractions", "whole", "both"])
+def test_parts_that_are_looked_at_together_tell_the_same(kind):
+    (image, noise), mesh = parts_of(kind), 8
+    rng, look = numpy.random.default_rng(1), sky._FirstLook(image.__getitem__, None, image.shape, mesh)
+    one_by_one = [sky._first_row(image[top : top + mesh], mesh, rng) for top in range(0, len(image), mesh)]
+    with concurrent.futures.ThreadPoolExecutor(3) as pool:
+        for how in (map, functools.partial(each, pool)):
+            found = sky._first_looks(look, how)
+            assert numpy.array_equal(numpy.array(found), numpy.array(one_by_one))
+        for relative in (None, noise.__getitem__):
+            alone = sky.of(image.__getitem__, image.shape, mesh, relative)
+            together = sky.of(image.__getitem__, image.shape, mesh, relative, functools.partial(each, pool))
+            assert (together.zero, together.noise) == (alone.zero, alone.noise)
+            assert numpy.array_equal(together.levels, alone.levels)
+            assert numpy.array_equal(together.deviations, alone.deviations)
+
+
+def test_no_part_is_looked_at_twice_where_they_follow_each_other(monkeypatch):
+    seen, first_row = [], sky._first_row
+    monkeypatch.setattr(sky, "_first_row", lambda *given: seen.append(1) or first_row(*given))
+    image, _ = parts_of("both")
+    sky.of(image.__getitem__, image.shape, 8)
+    assert len(seen) == 52

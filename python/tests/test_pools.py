@@ -1,4 +1,5 @@
 """Workers that are processes: the same rows for any number of them, and an end in one line with nothing left."""
+import itertools
 import os
 import pathlib
 import signal
@@ -10,8 +11,8 @@ import numpy
 import pytest
 from astropy.io import fits
 
-from conftest import add_star
-from maxdetect import _cataloguing as cataloguing, _cli as cli, _pools as pools, _running as running
+from conftest import add_star, cut_into_tiles
+from maxdetect import _cataloguing as cataloguing, _cli as cli, _images as images, _pools as pools, _running as running
 from maxdetect._errors import Mistake
 
 TOP = pathlib.Path(__file__).resolve().parent.parent.parent
@@ -57,6 +58,29 @@ def test_any_number_of_workers_finds_the_same(here):
         # A worker for each file; and a few files whose tiles share the workers.
         assert cli.main([*names, "--workers", workers]) == 0
         assert [table(f"{number}.cat.fits") for number in range(4)] == alone
+
+
+def test_all_looks_at_the_pixels_are_the_workers(here, monkeypatch):
+    image = numpy.random.default_rng(7).normal(500, 4, (600, 560))
+    for y, x in itertools.product(range(50, 600, 60), range(50, 560, 60)):
+        add_star(image, x, y, 2e4)
+    fits.writeto("square.fits", image.astype("f4"))
+    cut_into_tiles(monkeypatch, 256)
+    monkeypatch.setattr(running.measuring, "BLOCK", 256)
+    assert cli.main(["square.fits", "--workers", "1", "-o", "one.fits"]) == 0
+    seen, read = here / "seen", images.Plane.window
+
+    def watched(*given):
+        with open(seen, "a", encoding="ascii") as file:
+            file.write(f"{os.getpid()}\n")
+        return read(*given)
+
+    # Workers are forked, so they have what stands in its place here.
+    monkeypatch.setattr(images.Plane, "window", watched)
+    assert cli.main(["square.fits", "--workers", "2", "-o", "two.fits"]) == 0
+    assert table("one.fits") == table("two.fits") and len(table("one.fits"))
+    assert 1 <= len(set(seen.read_text().split()) - {str(os.getpid())}) <= 2
+    assert str(os.getpid()) not in seen.read_text().split()
 
 
 def test_what_comes_in_a_workers_way_comes_through():
@@ -120,7 +144,9 @@ def test_a_signal_leaves_nothing(here, names, number, monkeypatch):
         time.sleep(0.1)
         running.send_signal(number)
         told = running.communicate(timeout=300)[1]
-    assert running.returncode in (128 + number, 0) and told == ""
+    # Behind the last catalogue a signal ends Python as it ends any program.
+    done = all((here / name.replace(".fits", ".cat.fits")).exists() for name in names)
+    assert running.returncode in (128 + number, 0, *([-number] if done else [])) and told == ""
     until = time.monotonic() + 300
     while left(here) and time.monotonic() < until:
         time.sleep(0.05)
