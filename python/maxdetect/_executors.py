@@ -8,8 +8,10 @@ __all__ = ["each"]
 
 
 def _in_flight(executor: concurrent.futures.Executor) -> int:
-    """How many tiles are handed out at once."""
-    return 1 + (getattr(executor, "_max_workers", None) or 2 * (os.cpu_count() or 1))
+    """How many items are handed out at once: so many that a worker that is done has another one to do while the first
+    of all takes long.
+    """
+    return 2 * (getattr(executor, "_max_workers", None) or os.cpu_count() or 1)
 
 
 def _nothing() -> None:
