@@ -19,6 +19,7 @@ from . import (
     _headings as headings,
     _maps as maps,
     _planefiles as planefiles,
+    _pools as pools,
     _regions as regions,
     _skyplaces as skyplaces,
     _tables as tables,
@@ -41,16 +42,18 @@ LARGE = 2**22
 
 
 @contextlib.contextmanager
-def _scratch_map(shape):
-    """A map in a file of its own that goes away."""
-    with tempfile.TemporaryFile() as file:
+def _scratch_map(shape, tiles: Optional[Executor]):
+    """A map in a file of its own that goes away: in one that those who work on tiles have open, where there is one."""
+    with contextlib.ExitStack() as stack:
+        shared = stack.enter_context(tiles.file()) if isinstance(tiles, pools.Processes) else None
+        file = shared or stack.enter_context(tempfile.TemporaryFile())
         with about(tempfile.gettempdir()):
             planefiles.make_room(file, 4 * shape[0] * shape[1])
-        yield numpy.memmap(file, "i4", "r+", shape=shape)
+        yield maps.in_file(file, shape) if shared else numpy.memmap(file, "i4", "r+", shape=shape)
 
 
 @contextlib.contextmanager
-def _room_for_map(segments: Optional[numpy.ndarray], shape):
+def _room_for_map(segments: Optional[numpy.ndarray], shape, tiles: Optional[Executor]):
     """Where no map is asked for a large one stands in a file that goes away, as long as the disk has room for it; None
     stands for one in memory.
     """
@@ -58,18 +61,18 @@ def _room_for_map(segments: Optional[numpy.ndarray], shape):
     with contextlib.ExitStack() as stack:
         if segments is None and shape[0] * shape[1] > LARGE:
             with contextlib.suppress(Mistake, OSError):
-                room = stack.enter_context(_scratch_map(shape))
+                room = stack.enter_context(_scratch_map(shape, tiles))
         yield room
 
 
 @contextlib.contextmanager
-def _maps(task: Task, given: argparse.Namespace, name: Optional[str]):
+def _maps(task: Task, given: argparse.Namespace, name: Optional[str], tiles: Optional[Executor]):
     """For each field the map that is to be filled, or None; the file of this name has them, where there is one."""
     with contextlib.ExitStack() as stack:
         if name is not None:
             yield _planes_in(given.map, name, task, ">i4")
         elif given.plot:
-            yield [stack.enter_context(_scratch_map(field.shape)) for field in task.fields]
+            yield [stack.enter_context(_scratch_map(field.shape, tiles)) for field in task.fields]
         else:
             yield [None for _ in task.fields]
 
@@ -187,7 +190,7 @@ def _load(task: Task, given: argparse.Namespace, number: int) -> None:
 def done(task: Task, given: argparse.Namespace, tiles, progress) -> str:
     """Finds and writes a file's sources, and says so."""
     with about(task.output), whole_files(outputs_of(task, given)) as names, _maps(
-        task, given, names.get(given.map)
+        task, given, names.get(given.map), tiles
     ) as planes:
         found: List[Rows] = []
         skies: List["report.Skies"] = []
@@ -199,7 +202,7 @@ def done(task: Task, given: argparse.Namespace, tiles, progress) -> str:
             # In one process it would take room in memory beside the windows, and the time of their work.
             if tiles is not None:
                 more["meanwhile"] = functools.partial(_load, task, given, number)
-            with _room_for_map(segments, field.shape) as room:
+            with _room_for_map(segments, field.shape, tiles) as room:
                 table = detection.sources(field, tiles, segments=segments, room=room, **more)
             _count_on(table, segments, sum(map(len, found)))
             found.append(_finished(table, number, task, given))

@@ -200,7 +200,7 @@ def _found(
         elif left:
             for piece in each(pool, _Tile(detector, holding.cut_piece), left):
                 gathered.take(piece)
-    table, cut = gathered.rows()
+    table, cut = gathered.rows(executor)
     return _Found(table, cut, gathered.count - len(table))
 
 

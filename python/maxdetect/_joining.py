@@ -1,14 +1,19 @@
 """The sources of all tiles as one catalogue and one map."""
-from typing import Callable, List, Tuple
+import concurrent.futures
+from typing import Callable, List, Optional, Tuple
 
 import numpy
 
 from . import _maps as maps
+from ._executors import each
 from ._holding import Piece
 from ._rows import Rows, behind_each_other
 from ._windows import firsts
 
 __all__ = ["Gathered", "hide", "numbered", "renumber", "without_gaps"]
+
+
+Executor = Optional[concurrent.futures.Executor]
 
 
 # ---- numbers
@@ -25,9 +30,22 @@ def numbered(tables: List[Rows]) -> Tuple[Rows, numpy.ndarray]:
     return table, places
 
 
-def renumber(segments: numpy.ndarray, places: numpy.ndarray, count: int) -> None:
+class _Renumbered:
+    """Gives the pixels of a part of a map the numbers that stand at the places of those that they have."""
+
+    def __init__(self, numbers: numpy.ndarray):
+        self.numbers = numbers
+
+    def __call__(self, part: maps.Part) -> None:
+        # Most pixels are no source's.
+        own = part.pixels().reshape(-1)
+        some = numpy.flatnonzero(own != 0)
+        own[some] = self.numbers[own[some]]
+
+
+def renumber(segments: numpy.ndarray, places: numpy.ndarray, count: int, executor: Executor = None) -> None:
     """A map whose numbers, those below 0 too, count so many rows as they stood, in place by where these are now; rows
-    that aren't there any more are taken out of it.
+    that aren't there any more are taken out of it. The executor works on a map that is shared.
     """
     numbers, every = numpy.zeros(2 * count + 1, dtype=segments.dtype), numpy.arange(1, len(places) + 1)
     numbers[places + 1] = every
@@ -35,11 +53,10 @@ def renumber(segments: numpy.ndarray, places: numpy.ndarray, count: int) -> None
     numbers[-places - 1] = -every
     if len(places) == count and (numbers[1 : count + 1] == every).all():
         return
-    for rows in maps.bands(segments):
-        # Most pixels are no source's.
-        own = segments[rows].reshape(-1)
-        some = numpy.flatnonzero(own != 0)
-        own[some] = numbers[own[some]]
+    executor = executor if maps.is_shared(segments, executor) else None
+    parts = (maps.Part(segments, rows, executor=executor) for rows in maps.bands(segments))
+    for _ in each(executor, _Renumbered(numbers), parts):
+        pass
 
 
 def without_gaps(segments: numpy.ndarray) -> numpy.ndarray:
@@ -80,14 +97,14 @@ class Gathered:
             self.segments[rows] = 0
         self.tables, self.cut, self.count = [], [], 0
 
-    def rows(self) -> Tuple[Rows, numpy.ndarray]:
+    def rows(self, executor: Executor = None) -> Tuple[Rows, numpy.ndarray]:
         """The rows, numbered by their first pixels as the map now is, and which of them are cut; those alone that are
-        kept, where a column says so.
+        kept, where a column says so. The executor works on the map.
         """
         table, places = numbered(self.tables)
         if "KEPT" in table.colnames:
             kept = numpy.asarray(table["KEPT"], dtype=bool)
             table, places = table[[name for name in table.colnames if name != "KEPT"]][kept], places[kept]
             table["NUMBER"] = numpy.arange(1, len(table) + 1, dtype=table["NUMBER"].dtype)
-        renumber(self.segments, places, self.count)
+        renumber(self.segments, places, self.count, executor)
         return table, numpy.concatenate(self.cut)[places]

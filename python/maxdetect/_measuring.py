@@ -46,13 +46,13 @@ class _Row:
     def __init__(self, detector: "Detector", found: sky.Sky):
         self.detector, self.found = detector, found
 
-    def __call__(self, item: Tuple[slice, slice, numpy.ndarray]) -> numpy.ndarray:
-        rows, seen, segments = item
+    def __call__(self, item: Tuple[slice, slice, maps.Part]) -> numpy.ndarray:
+        rows, seen, part = item
         columns, within = slice(0, self.found.shape[1]), slice(rows.start - seen.start, rows.stop - seen.start)
         image = self.detector.field.to_measure(rows, columns)
         undefined = ~numpy.isfinite(image)
         residual = photometry.residual_of(image, self.found.level(rows, columns), undefined)
-        return beside.of_row(residual, undefined, segments, within, self.found.mesh)
+        return beside.of_row(residual, undefined, joining.without_gaps(part.pixels()), within, self.found.mesh)
 
 
 def sky_of_values(detector: "Detector", executor: Executor = None) -> Optional[sky.Sky]:
@@ -73,13 +73,6 @@ def sky_of_values(detector: "Detector", executor: Executor = None) -> Optional[s
     return found if field.settings.mesh else found.flat()
 
 
-def _taken(segments: numpy.ndarray, rows: slice) -> numpy.ndarray:
-    """Some rows of a map as an array of their own."""
-    found = numpy.array(segments[rows])
-    maps.let_go(segments)
-    return found
-
-
 def sky_beside(
     detector: "Detector", segments: numpy.ndarray, executor: Executor = None, found: Optional[sky.Sky] = None
 ) -> Optional[sky.Sky]:
@@ -91,11 +84,10 @@ def sky_beside(
     if found is None:
         return None
     rows = (
-        (own, seen, joining.without_gaps(part))
+        (own, seen, maps.Part(segments, seen, executor=executor))
         for own, seen in beside.bands(field.shape[0], found.mesh)
-        for part in [_taken(segments, seen)]
     )
-    return beside.joined(each(executor, _Row(detector, found), rows), found)
+    return beside.joined(maps.letting_go(segments, each(executor, _Row(detector, found), rows)), found)
 
 
 def points_of(
@@ -122,7 +114,7 @@ def noise_beside(field: Field, found: sky.Sky, own: sky.Sky, rows: slice, column
 
 
 class _Window:
-    """Measures sources in a window of a field, given with their rows and the map there."""
+    """Measures sources in a window of a field, given with their rows and the part of the map there."""
 
     def __init__(
         self,
@@ -141,15 +133,15 @@ class _Window:
         level = self.found.level(box.rows, box.columns)
         return level, noise_beside(self.detector.field, self.found, self.own, box.rows, box.columns)
 
-    def __call__(self, item: Tuple[Box, Rows, numpy.ndarray]) -> Rows:
-        box, rows, segments = item
+    def __call__(self, item: Tuple[Box, Rows, maps.Part]) -> Rows:
+        box, rows, part = item
         field, settings = self.detector.field, self.detector.settings
         level, noise = self._sky(box)
         found = photometry.measured(
             field.to_measure(box.rows, box.columns),
             level,
             noise,
-            segments,
+            part.pixels(),
             moved(rows.copy(), -box.left, -box.top),
             gain=settings.gain,
             saturation=field.saturation,
@@ -240,14 +232,14 @@ def measured(
     """
     shape, work = detector.field.shape, _Window(detector, found, points, own)
     if not len(table):
-        return work((Box(0, 1, 0, 1), table, numpy.zeros((1, 1), dtype="i4")))
+        return work((Box(0, 1, 0, 1), table, maps.Part(numpy.zeros((1, 1), dtype="i4"), slice(0, 1))))
     least = max(*detector.settings.apertures, detector.settings.vignet) / 2
     reach, answers, where = photometry.reach(table, points, least), [], []
     waiting = _blocks(table, reach, shape)
     while True:
         windows = []
         ahead, behind = itertools.tee(waiting)
-        items = ((box, table[places], segments[box.rows, box.columns]) for box, places in ahead)
+        items = ((box, table[places], maps.Part(segments, box.rows, box.columns, executor)) for box, places in ahead)
         for (box, places), answer in zip(behind, each(executor, work, items)):
             progress(0)
             maps.let_go(segments)

@@ -13,8 +13,9 @@ import os
 import queue
 import signal
 import sys
+import tempfile
 import threading
-from typing import Any, Callable, Iterator, NamedTuple, NoReturn, Optional, Tuple
+from typing import IO, Any, Callable, Iterator, NamedTuple, NoReturn, Optional, Tuple
 
 from ._errors import Mistake
 
@@ -99,10 +100,17 @@ def _begun() -> _Worker:
 
 class Processes(concurrent.futures.Executor):
     """Forked workers, all of them begun at once, so before there are threads. A thread for each waits for its answers.
-    Where one is killed its work ends in Lost, and the others go on.
+    Where one is killed its work ends in Lost, and the others go on. They are forked with so many files open in which
+    they and their parent can share what is too much to be sent.
     """
 
-    def __init__(self, count: int):
+    forked = True
+
+    def __init__(self, count: int, files: int = 0):
+        self._files: "queue.SimpleQueue[IO[bytes]]" = queue.SimpleQueue()
+        with contextlib.suppress(OSError):
+            for _ in range(files):
+                self._files.put(tempfile.TemporaryFile())
         self._max_workers, self._left, self._lock = count, count, threading.Lock()
         self._free: "queue.SimpleQueue[Optional[_Worker]]" = queue.SimpleQueue()
         self._workers = [_begun() for _ in range(count)]
@@ -115,6 +123,23 @@ class Processes(concurrent.futures.Executor):
         if named:
             work = functools.partial(work, **named)
         return self._threads.submit(self._ask, work, given)
+
+    @contextlib.contextmanager
+    def file(self) -> Iterator[Optional[IO[bytes]]]:
+        """An empty file that all workers have open, or None where none is left. It serves again if all goes well: else
+        one of them may be at work on it still.
+        """
+        try:
+            file = self._files.get_nowait()
+        except queue.Empty:
+            yield None
+            return
+        with contextlib.ExitStack() as stack:
+            stack.callback(file.close)
+            yield file
+            file.truncate(0)
+            stack.pop_all()
+            self._files.put(file)
 
     def _ask(self, work: Callable, given: tuple) -> Any:
         worker = self._free.get()
@@ -143,6 +168,8 @@ class Processes(concurrent.futures.Executor):
                 worker.connection.send(None)
             worker.process.join(PATIENCE)
             worker.connection.close()
+        while not self._files.empty():
+            self._files.get().close()
 
     def __exit__(self, kind, value, traceback):
         """Where an exception leaves the block, what is at work ends there."""
@@ -155,6 +182,6 @@ class Processes(concurrent.futures.Executor):
         self.shutdown(cancel_futures=kind is not None)
 
 
-def workers(count: int) -> concurrent.futures.Executor:
-    """So many workers."""
-    return Processes(count) if _can_fork() else concurrent.futures.ThreadPoolExecutor(count)
+def workers(count: int, files: int = 0) -> concurrent.futures.Executor:
+    """So many workers. Processes have so many files open besides, which threads don't want."""
+    return Processes(count, files) if _can_fork() else concurrent.futures.ThreadPoolExecutor(count)

@@ -110,7 +110,8 @@ def _tiles_pool(given: argparse.Namespace, good: List[Task]) -> Optional[Context
     # A process would unpack a compressed image by itself, and be sent the pixels that cosmic rays have hit.
     if given.cosmic_rays or not all(plane.mapped for task in good for plane in task.planes):
         return concurrent.futures.ThreadPoolExecutor(given.workers)
-    return pools.workers(given.workers)
+    # One for the map of each image that is at work.
+    return pools.workers(given.workers, files=len(good))
 
 
 def _executors(

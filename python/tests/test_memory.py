@@ -57,7 +57,7 @@ def test_a_large_map_stands_in_a_file(here, monkeypatch):
     before, made = written(here, "image.fits"), []
     scratch = cataloguing._scratch_map
     monkeypatch.setattr(cataloguing, "LARGE", 1000)
-    monkeypatch.setattr(cataloguing, "_scratch_map", lambda shape: made.append(shape) or scratch(shape))
+    monkeypatch.setattr(cataloguing, "_scratch_map", lambda *given: made.append(given[0]) or scratch(*given))
     assert written(here, "image.fits") == before and made == [(256, 256)]
     # Without room on the disk it stands in memory.
     monkeypatch.setattr(cataloguing.planefiles, "make_room", lambda file, size: (_ for _ in ()).throw(OSError(28, "")))

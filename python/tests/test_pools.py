@@ -12,7 +12,14 @@ import pytest
 from astropy.io import fits
 
 from conftest import add_star, cut_into_tiles
-from maxdetect import _cataloguing as cataloguing, _cli as cli, _images as images, _pools as pools, _running as running
+from maxdetect import (
+    _cataloguing as cataloguing,
+    _cli as cli,
+    _images as images,
+    _maps as maps,
+    _pools as pools,
+    _running as running,
+)
 from maxdetect._errors import Mistake
 
 TOP = pathlib.Path(__file__).resolve().parent.parent.parent
@@ -81,6 +88,60 @@ def test_all_looks_at_the_pixels_are_the_workers(here, monkeypatch):
     assert table("one.fits") == table("two.fits") and len(table("one.fits"))
     assert 1 <= len(set(seen.read_text().split()) - {str(os.getpid())}) <= 2
     assert str(os.getpid()) not in seen.read_text().split()
+
+
+def test_a_map_in_a_file_is_not_sent(here, monkeypatch):
+    sent, state = [], maps.Part.__getstate__
+
+    def watched(part):
+        sent.append(state(part))
+        return sent[-1]
+
+    monkeypatch.setattr(maps.Part, "__getstate__", watched)
+    words = ["image.fits", "--workers", "2", "-o"]
+    assert cli.main([*words, "small.fits"]) == 0
+    assert sent and all(it["_pixels"] is not None for it in sent)
+    sent.clear()
+    monkeypatch.setattr(cataloguing, "LARGE", 1000)
+    assert cli.main([*words, "large.fits"]) == 0
+    assert cli.main([*words, "mapped.fits", "--map", "map.fits"]) == 0
+    assert sent and all(it["_pixels"] is None for it in sent)
+    assert table("small.fits") == table("large.fits") == table("mapped.fits")
+    numbers = numpy.unique(fits.getdata("map.fits"))
+    assert numbers.tolist() == list(range(len(fits.getdata("small.fits", 1)) + 1))
+
+
+def doubled(part):
+    part.pixels()[:] *= 2
+    return part.pixels().sum()
+
+
+def test_workers_write_into_a_map_in_a_file():
+    with pools.Processes(2, 1) as pool, pool.file() as file:
+        file.truncate(4 * 300 * 20)
+        made = maps.in_file(file, (300, 20))
+        made[:] = 1
+        parts = [maps.Part(made, rows, slice(5, 9), pool) for rows in maps.bands(made)]
+        assert [pool.submit(doubled, part).result() for part in parts] == [2 * 256 * 4, 2 * 44 * 4]
+        assert (made[:, 5:9] == 2).all() and made.sum() == 300 * 24
+        # One in memory is sent, and stays as it is; so do threads and this process find it.
+        plain = numpy.ones((300, 20), dtype="i4")
+        assert not maps.is_shared(plain, pool) and not maps.is_shared(made[1:], pool)
+        assert pool.submit(doubled, maps.Part(plain, slice(2, 4), executor=pool)).result() == 80
+        assert (plain == 1).all() and maps.is_shared(plain, None)
+        assert doubled(maps.Part(plain, slice(2, 4))) == 80 and plain.sum() == 6040
+
+
+def test_a_file_of_the_workers_serves_again_where_all_went_well():
+    with pools.Processes(1, 1) as pool:
+        for _ in range(2):
+            with pool.file() as file, pool.file() as other:
+                assert other is None and file.seek(0, 2) == 0
+                file.write(b"map")
+        with pytest.raises(ZeroDivisionError), pool.file() as file:
+            raise ZeroDivisionError
+        with pool.file() as other:
+            assert file.closed and other is None
 
 
 def test_what_comes_in_a_workers_way_comes_through():
