@@ -9,7 +9,7 @@ from typing import Iterator, List, Optional
 
 from . import _likesex as likesex
 from ._options import parser
-from ._starting import ended_by_signals
+from ._starting import ended_by_signals, leave
 from ._telling import say, told
 
 __all__ = ["main"]
@@ -58,4 +58,4 @@ def main(words: Optional[List[str]] = None) -> int:
 
 
 if __name__ == "__main__":
-    sys.exit(main())
+    leave(main())

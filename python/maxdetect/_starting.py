@@ -3,6 +3,7 @@
 The package loads this module before all others, and the others when they are wanted, so it stands on Python's own
 library alone.
 """
+import atexit
 import contextlib
 import importlib.util
 import os
@@ -61,6 +62,20 @@ def begin() -> None:
     if lacking:
         print(f"maxdetect: {lacking}", file=sys.stderr)
         sys.exit(2)
+
+
+def leave(status: int) -> NoReturn:
+    """Ends a command that has done all, with what was to be done at the end: Python would take apart all that is loaded
+    besides, for a twentieth of a second.
+    """
+    try:
+        atexit._run_exitfuncs()
+        for stream in (sys.stdout, sys.stderr):
+            if stream is not None:
+                stream.flush()
+    except Exception:  # noqa: BLE001  Python tells of it in its own way.
+        sys.exit(status)
+    os._exit(status)
 
 
 @contextlib.contextmanager

@@ -129,3 +129,26 @@ def test_a_program_that_imports_the_package_keeps_its_ways(monkeypatch):
     before = signal.getsignal(signal.SIGINT)
     starting.begin()
     assert signal.getsignal(signal.SIGINT) is before
+
+
+LEAVING = """
+import atexit, sys
+from maxdetect import _starting as starting
+
+class Kept:
+    def __del__(self):
+        print("taken apart")
+
+kept = Kept()
+atexit.register(print, "at the end")
+print("found", end=" ")
+if sys.argv[1:]:
+    sys.stdout.close()
+starting.leave(3)
+"""
+
+
+@pytest.mark.parametrize("words, expected", [([], "found at the end\n"), (["closed"], "found ")])
+def test_a_command_leaves_by_itself(words, expected):
+    done = subprocess.run([sys.executable, "-c", LEAVING, *words], env=ENVIRONMENT, stdout=subprocess.PIPE, text=True)
+    assert (done.returncode, done.stdout) == (3, expected)
