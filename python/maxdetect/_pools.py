@@ -166,6 +166,8 @@ class Processes(concurrent.futures.Executor):
         for worker in self._workers:
             with contextlib.suppress(OSError):
                 worker.connection.send(None)
+        # All of them leave at once.
+        for worker in self._workers:
             worker.process.join(PATIENCE)
             worker.connection.close()
         while not self._files.empty():
