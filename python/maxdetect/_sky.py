@@ -6,7 +6,7 @@ mean over 3 by 3 pixels lies three deviations of such means off, and those five 
 neither comes in steps on images of whole numbers, and a crowd of stars hardly moves them.
 """
 import dataclasses
-from typing import Callable, Iterator, List, Optional, Tuple
+from typing import Any, Callable, Iterator, List, Optional, Tuple
 
 import numpy
 
@@ -18,7 +18,7 @@ KEPT = 0.997
 # Sampled pixels along a side of a cell, for the first guess.
 SAMPLED = 32
 # Rows of cells that are looked at in one go.
-AT_ONCE = 8
+AT_ONCE = 4
 # The part of a cell that has to be left for its level to count.
 ENOUGH = 0.1
 # Those cells that aren't known are filled here where that takes no more than so many looks at a cell.
@@ -344,6 +344,16 @@ class Sky:
         return dataclasses.replace(self, levels=numpy.full((1, 1), numpy.median(self.levels)))
 
 
+class Held:
+    """Reads the rows of an image that is held, or of a part of it that begins with this row."""
+
+    def __init__(self, pixels: numpy.ndarray, first: int = 0):
+        self.pixels, self.first = pixels, first
+
+    def __call__(self, rows: slice) -> numpy.ndarray:
+        return self.pixels[rows.start - self.first : rows.stop - self.first]
+
+
 @dataclasses.dataclass
 class _Look:
     """What is looked at by rows of cells: an image that is read by rows, with a map of its noise where it has one."""
@@ -361,6 +371,19 @@ class _Look:
         """The numbers of the rows of cells, some at a time."""
         count = cells_along(self.shape[0], self.mesh)
         return [range(first, min(first + AT_ONCE, count)) for first in range(0, count, AT_ONCE)]
+
+    def at(self, numbers: range) -> "_Look":
+        """The look for those who look at some rows of cells alone: of an image that is held they are sent no more."""
+        if not isinstance(self.read, Held):
+            return self
+        rows = slice(self.rows(numbers[0]).start, self.rows(numbers[-1]).stop)
+        return dataclasses.replace(self, read=Held(self.read(rows), rows.start))
+
+
+def _looked(item: Tuple[Callable, Any]) -> list:
+    """What a look finds in the rows of cells that it is given."""
+    look, given = item
+    return look(given)
 
 
 class _FirstLook(_Look):
@@ -397,12 +420,12 @@ def _first_looks(look: _FirstLook, each: Callable) -> List[Tuple[numpy.ndarray, 
     begun: List[int] = []
     found: List[List[Tuple[numpy.ndarray, ...]]] = []
 
-    def items() -> Iterator[Tuple[range, int]]:
+    def items() -> Iterator[Tuple[_Look, Tuple[range, int]]]:
         for part in parts:
             begun.append(drawn + sum(map(look.drawn, parts[len(found) : len(begun)])))
-            yield part, begun[-1]
+            yield look.at(part), (part, begun[-1])
 
-    for part, rows in zip(parts, each(look, items())):
+    for part, rows in zip(parts, each(_looked, items())):
         own = look.drawn(part, rows)
         found.append(look((part, drawn)) if own and begun[len(found)] != drawn else rows)
         drawn += own
@@ -451,7 +474,7 @@ def of(
     if relative is not None:
         deviation = _in_units(deviation, _Medians(relative, None, shape, mesh), each)
     look = _SecondLook(read, relative, shape, mesh, zero, guess, deviation, [row[3] for row in first])
-    second = [row for part in each(look, look.parts()) for row in part]
+    second = [row for part in each(_looked, ((look.at(part), part) for part in look.parts())) for row in part]
     mean, spread, count, there = (numpy.array(part) for part in zip(*second))
     return Sky(shape, mesh, zero, *_joined(guess, mean, spread, count, there))
 

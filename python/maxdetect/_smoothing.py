@@ -171,4 +171,4 @@ def noise_behind(
     bands = numpy.concatenate([*each(read, [slice(int(run[0]), min(int(run[-1]) + side, height)) for run in runs])])
     # A cell's own mean takes a part of what its few pixels vary together.
     lost = min(0.9, correlated(width) / side**2)
-    return sky.of(lambda rows: bands[rows], bands.shape, side).noise / math.sqrt(1 - lost)
+    return sky.of(sky.Held(bands), bands.shape, side, each=each).noise / math.sqrt(1 - lost)

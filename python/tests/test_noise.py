@@ -153,3 +153,16 @@ def test_no_part_is_looked_at_twice_where_they_follow_each_other(monkeypatch):
     image, _ = parts_of("both")
     sky.of(image.__getitem__, image.shape, 8)
     assert len(seen) == 52
+
+
+def test_of_an_image_that_is_held_no_more_is_sent_than_is_looked_at():
+    image, _ = parts_of("whole")
+    look = sky._FirstLook(sky.Held(image), None, image.shape, 8)
+    part = look.at(range(4, 7))
+    assert part.read.pixels.shape == (24, image.shape[1]) and numpy.shares_memory(part.read.pixels, image)
+    assert numpy.array_equal(numpy.array(part((range(4, 7), 99))), numpy.array(look((range(4, 7), 99))))
+    plain = sky._FirstLook(image.__getitem__, None, image.shape, 8)
+    assert plain.at(range(4, 7)) is plain
+    with concurrent.futures.ThreadPoolExecutor(3) as pool:
+        together = sky.of(sky.Held(image), image.shape, 8, each=functools.partial(each, pool))
+    assert together.noise == sky.of(image.__getitem__, image.shape, 8).noise
