@@ -2,6 +2,7 @@
 
 What is computed here is floating point by astropy and numpy, and nothing of it is proved.
 """
+import gc
 import re
 import warnings
 from typing import TYPE_CHECKING, NamedTuple, Optional, Tuple, Union
@@ -34,10 +35,16 @@ def _has_cards(header: fits.Header) -> bool:
 
 def load(header: fits.Header) -> None:
     """Has astropy loaded what a header's WCS wants, where it has one: that takes longer than a small image, and may be
-    done while others work.
+    done while others work. What is loaded stays, so Python isn't to look through it for garbage meanwhile.
     """
-    if _has_cards(header):
-        from astropy import wcs  # noqa: F401
+    collects = gc.isenabled()
+    gc.disable()
+    try:
+        if _has_cards(header):
+            from astropy import wcs  # noqa: F401
+    finally:
+        if collects:
+            gc.enable()
 
 
 def wcs_of(header: Union[None, fits.Header, "WCS"]) -> Optional["WCS"]:
@@ -48,6 +55,7 @@ def wcs_of(header: Union[None, fits.Header, "WCS"]) -> Optional["WCS"]:
         return header if header is not None and header.has_celestial else None
     if not _has_cards(header):
         return None
+    load(header)
     from astropy.wcs import WCS, FITSFixedWarning
 
     try:

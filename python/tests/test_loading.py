@@ -1,5 +1,6 @@
 """What a small image doesn't load, and that what stands in its place gives the same to the last bit."""
 import ast
+import gc
 import os
 import subprocess
 import sys
@@ -11,7 +12,7 @@ from astropy.io import fits
 from scipy import ndimage
 
 from conftest import TOP, add_star
-from maxdetect import _sky as sky, _smoothing as smoothing, _unittexts as unittexts
+from maxdetect import _sky as sky, _skyplaces as skyplaces, _smoothing as smoothing, _unittexts as unittexts
 from maxdetect._finishing import COLUMNS
 
 HEAVY = (
@@ -68,6 +69,24 @@ def test_what_the_end_wants_is_loaded_while_others_work(tmp_path, cards, loaded)
     done = subprocess.run(words, cwd=tmp_path, env=environment, stdout=subprocess.PIPE, text=True, check=True)
     assert set(loaded) <= set(ast.literal_eval(done.stdout.splitlines()[0])) and (loaded or done.stdout[:2] == "[]")
     assert ("RA" in fits.getdata(tmp_path / "cat.fits", 1).names) == bool(loaded)
+
+
+@pytest.mark.parametrize("collects", [False, True])
+def test_python_looks_for_garbage_afterwards_as_before(monkeypatch, collects):
+    before = gc.isenabled()
+    try:
+        (gc.enable if collects else gc.disable)()
+        skyplaces.load(fits.Header(SKY))
+        assert gc.isenabled() == collects
+        # An import that fails, as where astropy is half there.
+        monkeypatch.setitem(sys.modules, "astropy.wcs", None)
+        monkeypatch.delattr(sys.modules["astropy"], "wcs", raising=False)
+        with pytest.raises(ImportError):
+            skyplaces.load(fits.Header(SKY))
+        assert gc.isenabled() == collects
+        skyplaces.load(fits.Header({"OBJECT": "none"}))
+    finally:
+        (gc.enable if before else gc.disable)()
 
 
 def spelled(text):
