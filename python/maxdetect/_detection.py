@@ -160,11 +160,10 @@ def _detector(
     field: Field, executor: Optional[concurrent.futures.Executor], program: Optional[kernel.Path]
 ) -> Detector:
     """What looks at a field's windows, when its sky is known, and the pixels that cosmic rays have hit."""
-    parts = in_parts(field, executor)
-    found = sky_of(field, parts)
+    found = sky_of(field, in_parts(field, executor))
     if field.settings.cosmic_rays:
         field = dataclasses.replace(field, struck=cosmic.struck(field, found))
-    detector = Detector(field, found, looks.way(field, found, parts), program)
+    detector = Detector(field, found, looks.way(field, found, in_parts(field, executor)), program)
     if len(detector.plan.cores()) == 1:
         detector.share_strips()
     return detector

@@ -119,9 +119,9 @@ def in_parts(field: Field, executor: Optional[concurrent.futures.Executor]) -> E
     """What works on parts of a field that take a few hundredths of a second each: the executor, but for a small field,
     which is done before it is handed out, and where other processes would be sent its pixels with each part.
     """
-    threads = isinstance(executor, concurrent.futures.ThreadPoolExecutor)
-    shared = min(field.shape) >= field.settings.tile and (threads or all(plane.mapped for plane in field.planes))
-    return functools.partial(each, executor if shared else None)
+    light = field.struck is None and all(plane.mapped for plane in field.planes)
+    shared = light or isinstance(executor, concurrent.futures.ThreadPoolExecutor)
+    return functools.partial(each, executor if shared and min(field.shape) >= field.settings.tile else None)
 
 
 def sky_of(field: Field, each: Each = map) -> sky.Sky:

@@ -1,7 +1,7 @@
 """Maps that may stand in files: of these what is at work alone is held in memory."""
 import concurrent.futures
+import contextlib
 import mmap
-import os
 from typing import IO, Iterable, Iterator, Literal, NamedTuple, Optional, Tuple
 
 import numpy
@@ -39,8 +39,9 @@ def in_file(file: IO[bytes], shape: Tuple[int, int]) -> numpy.ndarray:
     """A map in a file with room for it that other processes were forked with: they find it by the name that the system
     gives to what a process has open, where it does.
     """
-    name = f"/dev/fd/{file.fileno()}"
-    return numpy.memmap(name if os.path.exists(name) else file, "i4", "r+", shape=shape)
+    with contextlib.suppress(OSError):
+        return numpy.memmap(f"/dev/fd/{file.fileno()}", "i4", "r+", shape=shape)
+    return numpy.memmap(file, "i4", "r+", shape=shape)
 
 
 def is_shared(segments: numpy.ndarray, executor: Optional[concurrent.futures.Executor]) -> bool:

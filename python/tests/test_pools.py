@@ -132,6 +132,24 @@ def test_workers_write_into_a_map_in_a_file():
         assert doubled(maps.Part(plain, slice(2, 4))) == 80 and plain.sum() == 6040
 
 
+def test_a_map_in_a_file_without_a_name_is_sent(monkeypatch):
+    memmap = numpy.memmap
+
+    def unnamed(file, *given, **more):
+        if isinstance(file, str):
+            raise FileNotFoundError(file)
+        return memmap(file, *given, **more)
+
+    with pools.Processes(1, 1) as pool, pool.file() as file:
+        file.truncate(4 * 12)
+        monkeypatch.setattr(numpy, "memmap", unnamed)
+        made = maps.in_file(file, (3, 4))
+        monkeypatch.undo()
+        made[:] = 3
+        assert not maps.is_shared(made, pool)
+        assert pool.submit(doubled, maps.Part(made, slice(0, 2), executor=pool)).result() == 48 and (made == 3).all()
+
+
 def test_a_file_of_the_workers_serves_again_where_all_went_well():
     with pools.Processes(1, 1) as pool:
         for _ in range(2):
