@@ -34,7 +34,7 @@ from ._wholefiles import whole_files
 if TYPE_CHECKING:
     from . import _report as report
 
-__all__ = ["done"]
+__all__ = ["done", "load"]
 
 Executor = concurrent.futures.Executor
 # A map of more pixels isn't held in memory.
@@ -181,7 +181,7 @@ def _told(filled: Callable, skies: list) -> Callable:
     return told
 
 
-def _load(task: Task, given: argparse.Namespace, number: int) -> None:
+def load(task: Task, given: argparse.Namespace, number: int = 0) -> None:
     """Has loaded what the sources of one of the fields will be finished and written by."""
     skyplaces.load(task.fields[number].plane.header)
     tables.load(form_of(task, given))
@@ -201,7 +201,7 @@ def done(task: Task, given: argparse.Namespace, tiles, progress) -> str:
             more = {"bands": task.bands[number], "told": told, "progress": progress}
             # In one process it would take room in memory beside the windows, and the time of their work.
             if tiles is not None:
-                more["meanwhile"] = functools.partial(_load, task, given, number)
+                more["meanwhile"] = functools.partial(load, task, given, number)
             with _room_for_map(segments, field.shape, tiles) as room:
                 table = detection.sources(field, tiles, segments=segments, room=room, **more)
             _count_on(table, segments, sum(map(len, found)))

@@ -124,6 +124,9 @@ def _executors(
     # What is left first is what the others wait for.
     files = stack.enter_context(concurrent.futures.ThreadPoolExecutor(together)) if together > 1 else None
     if given.scheduler is None and 1 < given.workers <= len(good):
+        # Once for all workers, as the first image wants it. What is wrong with it is theirs to tell.
+        with contextlib.suppress(Exception):
+            cataloguing.load(good[0], given)
         return files, None, stack.enter_context(pools.workers(together))
     tiles = _tiles_pool(given, good)
     return files, None if tiles is None else stack.enter_context(tiles), None

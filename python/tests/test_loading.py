@@ -71,6 +71,30 @@ def test_what_the_end_wants_is_loaded_while_others_work(tmp_path, cards, loaded)
     assert ("RA" in fits.getdata(tmp_path / "cat.fits", 1).names) == bool(loaded)
 
 
+FORKED_SCRIPT = f"""
+import sys
+from maxdetect import _cataloguing as cataloguing, _cli as cli
+done = cataloguing.done
+def watched(*given):
+    print([name for name in {HEAVY} if name in sys.modules], flush=True)
+    return done(*given)
+cataloguing.done = watched
+sys.exit(cli.main(sys.argv[1:]))
+"""
+
+
+@pytest.mark.parametrize("cards, loaded", [({}, []), (SKY, ["astropy.table", "astropy.units", "astropy.wcs"])])
+def test_what_workers_want_is_loaded_once(tmp_path, stars, cards, loaded):
+    names = ["one.fits", "two.fits"]
+    for name in names:
+        fits.writeto(tmp_path / name, stars[0], fits.Header(cards))
+    words = [sys.executable, "-c", FORKED_SCRIPT, *names, "--workers", "2"]
+    environment = {**os.environ, "PYTHONPATH": str(TOP / "python")}
+    done = subprocess.run(words, cwd=tmp_path, env=environment, stdout=subprocess.PIPE, text=True, check=True)
+    found = [ast.literal_eval(line) for line in done.stdout.splitlines() if line.startswith("[")]
+    assert len(found) == 2 and all(set(loaded) <= set(it) and (loaded or not it) for it in found)
+
+
 @pytest.mark.parametrize("collects", [False, True])
 def test_python_looks_for_garbage_afterwards_as_before(monkeypatch, collects):
     before = gc.isenabled()
