@@ -392,10 +392,15 @@ def failing(number):
 def test_a_full_disk(here, capsys, monkeypatch):
     monkeypatch.setattr(os, "posix_fallocate", failing(errno.ENOSPC))
     assert told(capsys, *ALL) == "maxcat: map.fits: No space left on device\n"
-    assert "No space left on device" in told(capsys, "image.fits", "--plot", "all.png")
     monkeypatch.setattr(os, "posix_fallocate", failing(errno.EOPNOTSUPP))
     table = catalogue(*ALL)
     assert fits.getdata("map.fits").max() == len(table)
+
+
+def test_a_plot_on_a_full_disk(here, capsys, monkeypatch):
+    pytest.importorskip("matplotlib", reason="plots want Matplotlib (Debian: python3-matplotlib)")
+    monkeypatch.setattr(os, "posix_fallocate", failing(errno.ENOSPC))
+    assert "No space left on device" in told(capsys, "image.fits", "--plot", "all.png")
 
 
 @pytest.mark.parametrize("module, name", [(tables, "cat.fits"), (regions, "all.reg")], ids=["tables", "regions"])
