@@ -76,7 +76,8 @@ import os, sys
 from maxdetect import _cataloguing as cataloguing, _cli as cli
 done = cataloguing.done
 def watched(*given):
-    print([os.getpid(), *(name for name in {HEAVY} if name in sys.modules)], flush=True)
+    # In one write: Python may write a line and its end one after the other, and both workers at once.
+    os.write(1, str([os.getpid(), *(name for name in {HEAVY} if name in sys.modules)]).encode() + bytes([10]))
     return done(*given)
 cataloguing.done = watched
 sys.exit(cli.main(sys.argv[1:]))
