@@ -1,8 +1,9 @@
 """Work on many items in an executor, in order and a few ahead."""
 import concurrent.futures
+import dataclasses
 import itertools
 import os
-from typing import Callable, Iterable, Iterator, Optional
+from typing import Any, Callable, Iterable, Iterator, Optional
 
 __all__ = ["each"]
 
@@ -12,6 +13,19 @@ def _in_flight(executor: concurrent.futures.Executor) -> int:
     of all takes long.
     """
     return 2 * (getattr(executor, "_max_workers", None) or os.cpu_count() or 1)
+
+
+@dataclasses.dataclass(repr=False, eq=False)
+class _Call:
+    """The call of a function with an item. Handed to Dask apart, an item that is a pair of a function and its argument
+    would be taken for a task, and what the function gives be the item.
+    """
+
+    work: Callable
+    item: Any
+
+    def __call__(self) -> Any:
+        return self.work(self.item)
 
 
 def _nothing() -> None:
@@ -33,11 +47,11 @@ def each(
     waiting, items = [], iter(items)
     try:
         for item in itertools.islice(items, _in_flight(executor)):
-            waiting.append(executor.submit(work, item))
+            waiting.append(executor.submit(_Call(work, item)))
         meanwhile()
         while waiting:
             result = waiting.pop(0).result()
-            waiting += [executor.submit(work, item) for item in itertools.islice(items, 1)]
+            waiting += [executor.submit(_Call(work, item)) for item in itertools.islice(items, 1)]
             yield result
     finally:
         for future in waiting:

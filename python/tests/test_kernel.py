@@ -86,6 +86,21 @@ def test_a_build_ends_with_the_command_that_began_it(tmp_path, number):
     assert (tmp_path / "ended").exists()
 
 
+@pytest.mark.skipif(not os.path.exists("/dev/full"), reason="there is no full device")
+def test_output_that_no_device_takes_is_a_fault(field):
+    """Whether the device refuses the last piece or one in the midst, and whether it refuses or is gone."""
+    program = maxdetect.find_program()
+    for words in (["trial", "--seed", "1", "--width", "8", "--height", "8"], ["tree"], ["filter", "--rule", "direct"]):
+        whole = subprocess.run([program, *words], input=field, capture_output=True, check=True).stdout
+        with open("/dev/full", "wb") as full:
+            done = subprocess.run([program, *words], input=field, stdout=full, stderr=subprocess.PIPE, check=False)
+        assert (done.returncode, done.stderr) == (4, b"write fault\n")
+        behind = f'"$@" | head -c {len(whole) // 2} | cksum'
+        front = subprocess.run(["sh", "-c", behind, "-", program, *words], input=field, capture_output=True, check=True)
+        half = subprocess.run(["cksum"], input=whole[: len(whole) // 2], capture_output=True, check=True).stdout
+        assert front.stdout == half
+
+
 def test_images_of_every_type_are_what_the_program_reads(field, tmp_path):
     image = maxdetect.load(io.BytesIO(field))
     blank = image.mask

@@ -1,5 +1,6 @@
 """Tiles against the whole."""
 import concurrent.futures
+from functools import partial
 
 import numpy
 import pytest
@@ -9,7 +10,9 @@ import maxdetect
 from maxdetect import (
     _detection as detection,
     _emptycells as emptycells,
+    _executors as executors,
     photometry,
+    _sky as sky,
     _tiles as tiles,
     _wholenumbers as wholenumbers,
     _windows as windows,
@@ -47,6 +50,22 @@ class InTurn(concurrent.futures.Executor):
         future = concurrent.futures.Future()
         future.set_result(work(*words, **options))
         return future
+
+
+class AsDask(InTurn):
+    """Calls, as Dask does, each pair of a function and its arguments, and hands on what that gives."""
+
+    def submit(self, work, *words, **options):
+        words = [it[0](*it[1:]) if isinstance(it, tuple) and it and callable(it[0]) else it for it in words]
+        return super().submit(work, *words, **options)
+
+
+def test_a_pair_with_a_function_is_no_task():
+    items = [(max, (3, 7, 5)), (len, "four")]
+    assert list(executors.each(AsDask(), list, items)) == [list(it) for it in items]
+    image = rough((96, 96)).astype("f4")
+    found = [sky.of(image.__getitem__, image.shape, 8, each=each) for each in (map, partial(executors.each, AsDask()))]
+    assert (found[0].levels == found[1].levels).all() and found[0].noise == found[1].noise
 
 
 def whole_and_tiled(image, threshold, tile, **options):
