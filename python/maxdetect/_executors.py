@@ -17,8 +17,8 @@ def _in_flight(executor: concurrent.futures.Executor) -> int:
 
 @dataclasses.dataclass(repr=False, eq=False)
 class _Call:
-    """The call of a function with an item. Handed to Dask apart, an item that is a pair of a function and its argument
-    would be taken for a task, and what the function gives be the item.
+    """The call of a function with an item, as one object: where an item is a pair of a function and its argument, Dask
+    would call that, and hand on what it gives.
     """
 
     work: Callable
