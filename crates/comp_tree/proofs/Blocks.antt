@@ -55,6 +55,11 @@ pub same-each : (count : ℕ) (runs : Option (List Run)) (values : List (Option 
 same-each count None values kept e = sym (subst (λ n. kept_pixels n None values ≡ values) kept (kept-each values))
 same-each count (Some runs) values kept e = let wrong : (let o : Option (List Run) = Some runs in o) ≡ None = e in absurd cc
 
+-- the same, of a list of runs that isn't there
+pub all-kept : {X : Type 0} (items : X → List Run) (count : ℕ) (runs : Option X) (values : List (Option ℤ)) → AreKept count (option_map items runs) values
+    → runs ≡ None → values ≡ kept_pixels count (option_map items runs) values
+all-kept items count runs values kept e = same-each count (option_map items runs) values kept (ap (option_map items) e)
+
 pub count-each : (count : ℕ) (runs : Option (List Run)) (values : List (Option ℤ)) → AreKept count runs values → runs ≡ None
     → length values ≡ count
 count-each count None values kept e = kept

@@ -75,3 +75,5 @@ pub use Rattle.comp_tree.proofs.WellFormed.{row-parent, row_level}
 -- the bound of values, by how many pixels there are: never above 2 ^ 37, that of few pixels, and that of the sum of all
 pub use Rattle.comp_tree.proofs.Values.{bound_least, bound_most, bound_of_sum, half_most, half_twice, usual_bound, usual_half, within_half, within_more, within_range, within_small, within-set}
 pub use Rattle.comp_tree.proofs.Values.{in_range-value, some_within}
+-- the pixel that represents a node, as its row names it
+pub use Rattle.comp_tree.proofs.WellFormed.{rep-of_node}

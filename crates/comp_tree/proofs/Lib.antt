@@ -30,4 +30,5 @@ mod Alike
 mod Windows
 mod Bands
 mod InTurn
+mod Runs
 pub mod Exported

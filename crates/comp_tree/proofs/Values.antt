@@ -2,6 +2,7 @@
 use Rattle.std.proofs.Common.{◌≡◌, ◌∙◌, ℕ, zero, suc, ◌+◌, ◌*◌, ◌^◌, ◌==◌, ◌≢◌, ◌<◌, ◌≤◌, Bool, true, false, cond, ◌&&◌, List}
 use Rattle.std.proofs.Common.{[], ◌∷◌, ◌++◌, length, take, get_or, refl, sym, ap, subst, eq-eqb, arith}
 use Rattle.std.specs.Prelude.{ℤ, pos, neg_ℤ, int_le, nat_le, if◌then◌else◌, Option, Some, None, IfSome, replicate, slice_get, slice_set}
+use Rattle.std.specs.Int.RustNames.{unsigned_abs}
 use Rattle.std.specs.Ordering.{int_eq}
 use Rattle.std.proofs.lemmas.Int.{ints}
 use Rattle.std.specs.List.{list_all}
@@ -12,7 +13,7 @@ use Rattle.comp_tree.specs.declared.shape.Shape.{Shape}
 use Rattle.comp_tree.specs.Raster.{Raster, HasValuesInRange, HasValuesWithin, value_at, is_pixel_value, raster_of}
 use Rattle.comp_tree.specs.Limits.{undefined_number}
 use Rattle.comp_tree.specs.Numbers.{undefined_short, most_short, pixel_of}
-use Rattle.lemmas.proofs.Exported.{int_eq-true, int_le-true}
+use Rattle.lemmas.proofs.Exported.{int_eq-true, int_eq_refl, int_le-true}
 use Rattle.std.proofs.lemmas.Bool.{and_parts, ne_eqb, cond-true}
 use Rattle.std.proofs.lemmas.Bool.Decides.{nat_tests}
 
@@ -140,8 +141,13 @@ pub pixel_of-undefined_short : pixel_of undefined_short undefined_short ≡ None
 unfolding pixel_of
 pixel_of-undefined_short = refl
 
+-- a number that is that of the undefined ones is no value
+pub pixel_of-same : (undefined v : ℤ) → v ≡ undefined → pixel_of undefined v ≡ None
+unfolding pixel_of
+pixel_of-same undefined v same = cond-true (int_eq v undefined) None (Some v) (rw same (int_eq_refl undefined))
+
 -- another number than that of the undefined ones is a value
-pixel_of-other : (undefined v : ℤ) → (v ≡ undefined → ⊥) → pixel_of undefined v ≡ Some v
+pub pixel_of-other : (undefined v : ℤ) → (v ≡ undefined → ⊥) → pixel_of undefined v ≡ Some v
 unfolding pixel_of
 pixel_of-other undefined v other = go (int_eq v undefined) refl
   where
@@ -155,6 +161,21 @@ pixel_of-in_range v r = pixel_of-other undefined_number v (λ same. let low : _ 
 
 pub pixel_of-short : (v : ℤ) → IsWithin most_short v → pixel_of undefined_short v ≡ Some v
 pixel_of-short v r = pixel_of-other undefined_short v (λ same. let low : _ = r.low in omega (arith, ints, same))
+
+-- ---- how far a value is from 0
+
+within_abs : (v : ℤ) (n : ℕ) → n ≡ unsigned_abs v → IsWithin n v
+within_abs v n e = record { low = omega (arith, ints, e); high = omega (arith, ints, e) }
+
+abs_least : (v : ℤ) (n most : ℕ) → n ≡ unsigned_abs v → IsWithin most v → n ≤ most
+abs_least v n most e h = let low : _ = h.low in let high : _ = h.high in omega (arith, ints, e, low, high)
+
+-- of the value of a pixel that has one
+pub within_abs_value : (o : Option ℤ) (v : ℤ) (n : ℕ) → o ≡ Some v → n ≡ unsigned_abs v → IfSome o (λ w. IsWithin n w)
+within_abs_value o v n is e = rw is (within_abs v n e)
+
+pub abs_value_least : (o : Option ℤ) (v : ℤ) (n most : ℕ) → o ≡ Some v → n ≡ unsigned_abs v → IfSome o (λ w. IsWithin most w) → n ≤ most
+abs_value_least o v n most is e h = abs_least v n most e (rw is at h)
 
 -- ---- pixels that were kept
 

@@ -1,10 +1,11 @@
 //! Planes that are being painted.
 
-ghost use Rattle.std.specs.Prelude.{◌≡◌, ◌*◌, ◌<◌, ◌≤◌, None, replicate, slice_set, IfOk, IfSome, length};
+ghost use Rattle.std.specs.Prelude.{◌≡◌, ℕ, ◌+◌, ◌*◌, ◌<◌, ◌≤◌, None, replicate, slice_set, IfOk, IfSome, length};
 ghost use Rattle.comp_tree.specs.Limits.{IsWithin, value_bound};
-ghost use Rattle.comp_tree.specs.Raster.{raster_painted};
+ghost use Rattle.comp_tree.specs.Raster.{HasValuesWithin, raster_painted, value_at};
 
 use crate::kept::Kept;
+use crate::pixel::Pixel;
 use crate::plane::{Plane, bound_of};
 use crate::shape::Shape;
 use costs::OutOfMemory;
@@ -81,6 +82,20 @@ impl Canvas {
         ensures { self.new ≡ record self.old { values = slice_set self.old.values p value } }
     {
         self.pixels.set(p as usize, value);
+    }
+
+    /// Gives the pixels from `first` on the values of `run`, each of which may be none.
+    pub fn put_pixels(&mut self, first: u32, run: &[Pixel])
+        requires inside { first + length run.now ≤ length self.old.values }
+        requires in_range { HasValuesWithin self.old.most run.now }
+        ensures shape { self.new.shape ≡ self.old.shape }
+        ensures most { self.new.most ≡ self.old.most }
+        ensures one_each { length self.new.values ≡ length self.old.values }
+        ensures inside { (k : ℕ) → k < length run.now → value_at self.new.values (first + k) ≡ value_at run.now k }
+        ensures before { (p : ℕ) → p < first → value_at self.new.values p ≡ value_at self.old.values p }
+        ensures behind { (p : ℕ) → first + length run.now ≤ p → value_at self.new.values p ≡ value_at self.old.values p }
+    {
+        self.pixels.put_run(first as usize, run);
     }
 
     /// The plane that was painted.

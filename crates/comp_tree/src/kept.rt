@@ -6,7 +6,8 @@ ghost use Rattle.comp_tree.specs.Bands.{LeavesWithin};
 ghost use Rattle.comp_tree.specs.ShortBands.{LeavesBandWithin, IsBandChanged};
 ghost use Rattle.comp_tree.specs.Limits.{IsWithin};
 ghost use Rattle.comp_tree.specs.Numbers.{most_short};
-ghost use Rattle.comp_tree.specs.Raster.{value_at, HasValuesWithin};
+ghost use Rattle.comp_tree.specs.Raster.{at_least, value_at, HasValuesWithin};
+ghost use Rattle.std.specs.List.{list_any, range_with_len};
 ghost use Rattle.comp_tree.specs.Kept.{kept_items, room_of};
 
 use crate::pixel::{Pixel, ShortPixel};
@@ -81,6 +82,57 @@ impl Kept {
         match self {
             Kept::Wide(pixels) => pixels[place] = Pixel::of(value),
             Kept::Short(pixels) => pixels[place] = ShortPixel::of(value),
+        }
+    }
+
+    // Copies the pixels from `first` on into `run`, as many as it has.
+    pub(crate) fn copy_run(&self, first: usize, run: &mut [Pixel])
+        requires inside { first + length run.old ≤ length (kept_items self.now) }
+        ensures one_each { length run.new ≡ length run.old }
+        ensures same { (k : ℕ) → k < length run.old → value_at run.new k ≡ value_at (kept_items self.now) (first + k) }
+    {
+        match self {
+            Kept::Wide(pixels) => copy_wide(pixels, first, run),
+            Kept::Short(pixels) => widen(pixels, first, run),
+        }
+    }
+
+    // Gives the pixels from `first` on the values of `run`.
+    pub(crate) fn put_run(&mut self, first: usize, run: &[Pixel])
+        requires inside { first + length run.now ≤ length (kept_items self.old) }
+        requires room { HasValuesWithin (room_of self.old) run.now }
+        ensures room { room_of self.new ≡ room_of self.old }
+        ensures one_each { length (kept_items self.new) ≡ length (kept_items self.old) }
+        ensures inside { (k : ℕ) → k < length run.now → value_at (kept_items self.new) (first + k) ≡ value_at run.now k }
+        ensures before { (p : ℕ) → p < first → value_at (kept_items self.new) p ≡ value_at (kept_items self.old) p }
+        ensures behind { (p : ℕ) → first + length run.now ≤ p
+            → value_at (kept_items self.new) p ≡ value_at (kept_items self.old) p }
+    {
+        match self {
+            Kept::Wide(pixels) => put_wide(run, pixels, first),
+            Kept::Short(pixels) => shorten(run, pixels, first),
+        }
+    }
+
+    // Whether one of so many pixels from `first` on is defined and has at least this value.
+    pub(crate) fn any_at_least(&self, bound: i64, first: usize, count: usize) -> bool
+        requires inside { first + count ≤ length (kept_items self.now) }
+        ensures { result ≡ list_any (λ p. at_least bound (value_at (kept_items self.now) p)) (range_with_len first count) }
+    {
+        match self {
+            Kept::Wide(pixels) => any_wide(pixels, bound, first, count),
+            Kept::Short(pixels) => any_short(pixels, bound, first, count),
+        }
+    }
+
+    // How far from 0 a value lies at the most, or 0 where no pixel is defined.
+    pub(crate) fn farthest(&self) -> u64
+        ensures within { HasValuesWithin result (kept_items self.now) }
+        ensures least { (most : ℕ) → HasValuesWithin most (kept_items self.now) → result ≤ most }
+    {
+        match self {
+            Kept::Wide(pixels) => farthest_wide(pixels),
+            Kept::Short(pixels) => farthest_short(pixels),
         }
     }
 
@@ -219,4 +271,77 @@ fn shorten(band: &[Pixel], pixels: &mut [ShortPixel], start: usize)
     for k in 0..band.len() {
         pixels[start + k] = ShortPixel::of(band[k].value());
     }
+}
+
+// Fills the band with the pixels from `start` on, which are wide already.
+fn copy_wide(pixels: &[Pixel], start: usize, band: &mut [Pixel])
+    requires inside { start + length band.old ≤ length pixels.now }
+    ensures one_each { length band.new ≡ length band.old }
+    ensures same { (k : ℕ) → k < length band.old → value_at band.new k ≡ value_at pixels.now (start + k) }
+{
+    for k in 0..band.len() {
+        band[k] = pixels[start + k];
+    }
+}
+
+// Puts the pixels of the band where those from `start` on are, which are wide too.
+fn put_wide(band: &[Pixel], pixels: &mut [Pixel], start: usize)
+    requires inside { start + length band.now ≤ length pixels.old }
+    ensures one_each { length pixels.new ≡ length pixels.old }
+    ensures inside { (k : ℕ) → k < length band.now → value_at pixels.new (start + k) ≡ value_at band.now k }
+    ensures before { (p : ℕ) → p < start → value_at pixels.new p ≡ value_at pixels.old p }
+    ensures behind { (p : ℕ) → start + length band.now ≤ p → value_at pixels.new p ≡ value_at pixels.old p }
+{
+    for k in 0..band.len() {
+        pixels[start + k] = band[k];
+    }
+}
+
+// Whether one of so many wide pixels from `start` on has at least this value. It looks at all of them: with no way out of the loop
+// several are compared at once.
+fn any_wide(pixels: &[Pixel], bound: i64, start: usize, count: usize) -> bool
+    requires inside { start + count ≤ length pixels.now }
+    ensures { result ≡ list_any (λ p. at_least bound (value_at pixels.now p)) (range_with_len start count) }
+{
+    let mut any = false;
+    for k in 0..count {
+        any |= pixels[start + k].is_at_least(bound);
+    }
+    any
+}
+
+// The same of short pixels.
+fn any_short(pixels: &[ShortPixel], bound: i64, start: usize, count: usize) -> bool
+    requires inside { start + count ≤ length pixels.now }
+    ensures { result ≡ list_any (λ p. at_least bound (value_at pixels.now p)) (range_with_len start count) }
+{
+    let mut any = false;
+    for k in 0..count {
+        any |= pixels[start + k].is_at_least(bound);
+    }
+    any
+}
+
+// How far from 0 a value of wide pixels lies at the most.
+fn farthest_wide(pixels: &[Pixel]) -> u64
+    ensures within { HasValuesWithin result pixels.now }
+    ensures least { (most : ℕ) → HasValuesWithin most pixels.now → result ≤ most }
+{
+    let mut distance: u64 = 0;
+    for k in 0..pixels.len() {
+        distance = distance.max(pixels[k].distance());
+    }
+    distance
+}
+
+// The same of short pixels.
+fn farthest_short(pixels: &[ShortPixel]) -> u64
+    ensures within { HasValuesWithin result pixels.now }
+    ensures least { (most : ℕ) → HasValuesWithin most pixels.now → result ≤ most }
+{
+    let mut distance: u32 = 0;
+    for k in 0..pixels.len() {
+        distance = distance.max(pixels[k].distance());
+    }
+    u64::from(distance)
 }

@@ -15,6 +15,8 @@ mod pixel;
 mod pixels;
 mod plain;
 mod plane;
+#[cfg(test)]
+mod run_tests;
 mod shape;
 #[cfg(test)]
 mod tests;

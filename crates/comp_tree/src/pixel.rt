@@ -1,6 +1,7 @@
 //! A pixel as a plane keeps it.
 
-ghost use Rattle.std.specs.Prelude.{◌≡◌, IfSome};
+ghost use Rattle.std.specs.Prelude.{◌≡◌, ℕ, ◌≤◌, IfSome};
+ghost use Rattle.comp_tree.specs.Raster.{at_least};
 ghost use Rattle.comp_tree.specs.Limits.{IsWithin, IsWithinRange};
 ghost use Rattle.comp_tree.specs.Numbers.{most_short};
 
@@ -62,6 +63,30 @@ impl Pixel {
     }
 }
 
+impl Pixel {
+    // Whether it is defined and has at least this value: two comparisons and no branch.
+    #[inline(always)]
+    #[tactic(auto, unfolding(crate::specs::Numbers::pixel_of))]
+    pub(crate) fn is_at_least(self, bound: i64) -> bool
+        ensures { result ≡ at_least bound self }
+    {
+        self.number != UNDEFINED && bound <= self.number
+    }
+
+    // How far from 0 its value lies, or 0 where it is undefined. Both answers cost so little that they are made without a branch, and in a loop
+    // several at once.
+    #[inline(always)]
+    pub(crate) fn distance(self) -> u64
+        ensures within { IfSome self (λ v. IsWithin result v) }
+        ensures least { (most : ℕ) → IfSome self (λ v. IsWithin most v) → result ≤ most }
+    {
+        if self.number == UNDEFINED {
+            return 0;
+        }
+        self.number.unsigned_abs()
+    }
+}
+
 /// A pixel of which the value is below 2^31 and above its negative. It takes four bytes.
 #[derive(Clone, Copy)]
 pub struct ShortPixel {
@@ -120,5 +145,25 @@ impl ShortPixel {
             return None;
         }
         Some(i64::from(self.number))
+    }
+    // Whether it is defined and has at least this value: two comparisons and no branch.
+    #[inline(always)]
+    #[tactic(auto, unfolding(crate::specs::Numbers::pixel_of))]
+    pub(crate) fn is_at_least(self, bound: i64) -> bool
+        ensures { result ≡ at_least bound self }
+    {
+        self.number != UNDEFINED_SHORT && bound <= i64::from(self.number)
+    }
+
+    // The same of short ones. In 32 bits, twice as many are made at once as in 64.
+    #[inline(always)]
+    pub(crate) fn distance(self) -> u32
+        ensures within { IfSome self (λ v. IsWithin result v) }
+        ensures least { (most : ℕ) → IfSome self (λ v. IsWithin most v) → result ≤ most }
+    {
+        if self.number == UNDEFINED_SHORT {
+            return 0;
+        }
+        self.number.unsigned_abs()
     }
 }

@@ -8,11 +8,11 @@ ghost use Rattle.comp_tree.specs.Limits.{most_pixels};
 ghost use Rattle.comp_tree.specs.Bands.{LeavesWithin};
 ghost use Rattle.comp_tree.specs.Kept.{kept_items};
 ghost use Rattle.comp_tree.specs.Numbers.{most_short};
-ghost use Rattle.comp_tree.specs.Raster.{value_at, HasGap};
+ghost use Rattle.comp_tree.specs.Raster.{value_at, at_least, HasGap, HasValuesWithin};
 ghost use Rattle.std.specs.Option.{option_map};
 ghost use Rattle.comp_tree.specs.Stored.{kept_place, place_in_run as place_in_run_of, AreBlocksOf, AreAllInBlocks};
 ghost use Rattle.comp_tree.specs.Stored.{shown_values};
-ghost use Rattle.std.specs.List.{range_with_len};
+ghost use Rattle.std.specs.List.{list_any, range_with_len};
 
 use crate::kept::{Kept, SHORT_END, copy_of};
 use crate::pixel::Pixel;
@@ -117,6 +117,80 @@ impl Pixels {
             Some(place) => self.kept.pixel(place),
             None => Pixel::of(None),
         }
+    }
+
+    // Copies the pixels from `first` on into `run`, as many as it has.
+    pub(crate) fn copy_run(&self, first: usize, run: &mut [Pixel])
+        requires inside { first + length run.old ≤ length self.now }
+        ensures one_each { length run.new ≡ length run.old }
+        ensures same { (k : ℕ) → k < length run.old → value_at run.new k ≡ value_at self.now (first + k) }
+    {
+        match self.runs {
+            None => self.kept.copy_run(first, run),
+            Some(_) => self.copy_each(first, run),
+        }
+    }
+
+    // The same by a look at each.
+    fn copy_each(&self, first: usize, run: &mut [Pixel])
+        requires inside { first + length run.old ≤ length self.now }
+        ensures one_each { length run.new ≡ length run.old }
+        ensures same { (k : ℕ) → k < length run.old → value_at run.new k ≡ value_at self.now (first + k) }
+    {
+        // for its clauses alone: how many there are
+        let _count = self.len();
+        for k in 0..run.len() {
+            run[k] = self.pixel(first + k);
+        }
+    }
+
+    // Whether one of so many pixels from `first` on is defined and has at least this value.
+    pub(crate) fn any_at_least(&self, bound: i64, first: usize, count: usize) -> bool
+        requires inside { first + count ≤ length self.now }
+        ensures { result ≡ list_any (λ p. at_least bound (value_at self.now p)) (range_with_len first count) }
+    {
+        match self.runs {
+            None => self.kept.any_at_least(bound, first, count),
+            Some(_) => self.any_of_each(bound, first, count),
+        }
+    }
+
+    // The same by a look at each.
+    fn any_of_each(&self, bound: i64, first: usize, count: usize) -> bool
+        requires inside { first + count ≤ length self.now }
+        ensures { result ≡ list_any (λ p. at_least bound (value_at self.now p)) (range_with_len first count) }
+    {
+        // for its clauses alone: how many there are
+        let _count = self.len();
+        let mut any = false;
+        for k in 0..count {
+            any |= self.pixel(first + k).is_at_least(bound);
+        }
+        any
+    }
+
+    // How far from 0 a value lies at the most, or 0 where no pixel is defined.
+    pub(crate) fn farthest(&self) -> u64
+        ensures within { HasValuesWithin result self.now }
+        ensures least { (most : ℕ) → HasValuesWithin most self.now → result ≤ most }
+    {
+        match self.runs {
+            None => self.kept.farthest(),
+            Some(_) => self.farthest_of_each(),
+        }
+    }
+
+    // The same by a look at each.
+    fn farthest_of_each(&self) -> u64
+        ensures within { HasValuesWithin result self.now }
+        ensures least { (most : ℕ) → HasValuesWithin most self.now → result ≤ most }
+    {
+        let count = self.len();
+        let mut distance: u64 = 0;
+        for p in 0..count {
+            distance = distance.max(self.pixel(p).distance());
+        }
+        distance
     }
 
     // Makes a pixel undefined.

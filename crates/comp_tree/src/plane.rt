@@ -1,7 +1,7 @@
 //! Planes: images of whole numbers with undefined pixels.
 
-ghost use Rattle.std.specs.Prelude.{◌≡◌, ◌*◌, ◌^◌, ◌<◌, ◌≤◌, true, None, length, is_some, slice_set, IfOk, IfSome, OnOk, OnErr, IsTrue};
-ghost use Rattle.std.specs.List.{list_all};
+ghost use Rattle.std.specs.Prelude.{◌≡◌, ℕ, ◌+◌, ◌-◌, ◌*◌, ◌^◌, ◌<◌, ◌≤◌, true, None, length, is_some, slice_set, IfOk, IfSome, OnOk, OnErr, IsTrue};
+ghost use Rattle.std.specs.List.{list_all, list_any, range_with_len};
 ghost use Rattle.std.specs.Fork.{AcceptsChunksMut, AllInChunks};
 ghost use Rattle.comp_tree.specs.Bands.{LeavesWithin};
 ghost use Rattle.comp_tree.specs.Limits.{IsWithin, IsWithinRange, value_bound};
@@ -117,6 +117,35 @@ impl Plane {
         ensures bounded { IfSome result (λ v. IsWithin (value_bound (length self.now.values)) v) }
     {
         self.pixels.get(p as usize)
+    }
+
+    /// Copies the pixels from `first` on into `run`, as many as it has.
+    pub fn copy_pixels(&self, first: u32, run: &mut [Pixel])
+        requires inside { first + length run.old ≤ length self.now.values }
+        ensures one_each { length run.new ≡ length run.old }
+        ensures same { (k : ℕ) → k < length run.old → value_at run.new k ≡ value_at self.now.values (first + k) }
+    {
+        self.pixels.copy_run(first as usize, run);
+    }
+
+    /// Whether one of the pixels from `first` up to `end` belongs to the threshold set of this level. It is quicker than a look at each.
+    pub fn any_at_least(&self, bound: i64, first: u32, end: u32) -> bool
+        requires order { first ≤ end }
+        requires inside { end ≤ length self.now.values }
+        ensures { result ≡ list_any (is_at_least self.now bound) (range_with_len first (end - first)) }
+    {
+        let count = end - first;
+        self.pixels
+            .any_at_least(bound, first as usize, count as usize)
+    }
+
+    /// How far from 0 a value lies at the most, or 0 where no pixel is defined.
+    pub fn farthest(&self) -> u64
+        ensures within { HasValuesWithin result self.now.values }
+        ensures least { (most : ℕ) → HasValuesWithin most self.now.values → result ≤ most }
+        ensures bounded { result ≤ value_bound (length self.now.values) }
+    {
+        self.pixels.farthest()
     }
 
     /// The first defined pixel from `first` up to `end`, or `end` if there is none. With many undefined pixels it is quicker

@@ -94,7 +94,7 @@ fn values_of_no_plane(rt: HostRuntime) {
 }
 
 // A blank row for all values, or, where it is short, for those from -9 to 9.
-fn blank_row(alloc: Global, width: u32, short: bool) -> Option<Canvas>
+pub(crate) fn blank_row(alloc: Global, width: u32, short: bool) -> Option<Canvas>
     ensures { IfSome result (λ canvas. 9 ≤ canvas.most) }
 {
     let shape = Shape::of(width, 1)?;
@@ -129,7 +129,7 @@ fn painted(alloc: Global, short: bool) -> Option<Plane> {
 }
 
 // Whether there is a plane, and it has these values, row by row.
-fn is_plane_of(plane: Option<Plane>, wanted: &[Option<i64>]) -> bool {
+pub(crate) fn is_plane_of(plane: Option<Plane>, wanted: &[Option<i64>]) -> bool {
     match plane {
         Some(plane) => has_values(&plane, wanted),
         None => false,
@@ -162,7 +162,7 @@ fn plane_of_few(alloc: Global, short: bool) -> Option<Plane> {
 }
 
 // A copy of a plane, kept in less memory where few pixels are defined.
-fn compacted(alloc: Global, plane: &Plane) -> Option<Plane> {
+pub(crate) fn compacted(alloc: Global, plane: &Plane) -> Option<Plane> {
     let mut copy = plane.copied(alloc).ok()?;
     match copy.compact(alloc) {
         Ok(()) => Some(copy),
