@@ -4,7 +4,7 @@ use Rattle.std.proofs.Common.{slice_set, inl, inr, ⊎_elim, zero, suc, get_or, 
 use Rattle.std.specs.Int.{w16, w32, w64, cast_signed}
 use Rattle.std.proofs.lemmas.Bool.{or_cases}
 use Rattle.std.proofs.lemmas.Bool.Decides.{nat_tests}
-use Rattle.std.proofs.lemmas.List.{get_or-take, drop-take, drop-drop, take_rest}
+use Rattle.std.proofs.lemmas.List.{get_or-take, get_or-drop, drop-take, drop-drop, take_rest}
 use Rattle.dev_io.specs.Streams.{Takes, Fills}
 use Rattle.dev_io.specs.Laws.{Takes-after, TakesAtMost-after}
 use Rattle.std.proofs.lemmas.Bool.{cases_lt}
@@ -12,7 +12,7 @@ use Rattle.std.proofs.lemmas.List.{get_or-set_same, get_or-set_other}
 use Rattle.comp_tree.specs.Raster.{value_at}
 use Rattle.pixel_plane.specs.WithinLimits.{HasValuesInLimits}
 use Rattle.pixel_plane.specs.declared.encoding.Encoding.{Encoding}
-use Rattle.pixel_plane.specs.Decoding.{decoded, IsDecoded, IsFar, FarInside, FarRead, ReadSoFar, BytesStopped, RestStopped, PixelsStopped}
+use Rattle.pixel_plane.specs.Decoding.{decoded, SuitsEncoding, IsRunDecoded, IsDecoded, IsFar, FarInside, FarRead, ReadSoFar, BytesStopped, RestStopped, PixelsStopped}
 use Rattle.pixel_plane.specs.declared.fault.PlaneFault.TheVariants.{TruncatedData, PixelRange}
 use Rattle.pixel_plane.specs.declared.fault.PlaneStop.{PlaneStop}
 use Rattle.pixel_plane.specs.declared.fault.PlaneStop.TheVariants.{Fault, ReadFault, OutOfMemory}
@@ -35,6 +35,58 @@ decoded_next encoding bytes first p old new v from inside is before = record {
       (λ (h : q < p). value_at-set_other new p q v h ∙ before.here q low h)
       (λ (h : p ≤ q). let e : p ≡ q = omega arith in
       subst (λ x. value_at (slice_set new p v) x ≡ decoded encoding bytes (x - first)) e (value_at-set new p v inside ∙ is))
+      (cases_lt q p);
+}
+
+-- ---- a run of pixels
+
+pub run_none : (encoding : Encoding) (bytes : List ℕ) (run : List (Option ℤ)) → IsRunDecoded encoding bytes run 0
+run_none encoding bytes run = record { values = λ k h. absurd (omega (arith, h)); suit = λ k h. absurd (omega (arith, h)) }
+
+pub run_next : (encoding : Encoding) (bytes : List ℕ) (run : List (Option ℤ)) (k : ℕ) (v : Option ℤ) → k < length run
+    → v ≡ decoded encoding bytes k → SuitsEncoding encoding v → IsRunDecoded encoding bytes run k → IsRunDecoded encoding bytes (slice_set run k v) (k + 1)
+run_next encoding bytes run k v inside is suits before = record {
+  values = λ q h. ⊎_elim
+      (λ (less : q < k). value_at-set_other run k q v less ∙ before.values q less)
+      (λ (more : k ≤ q). let e : k ≡ q = omega arith in
+      subst (λ x. value_at (slice_set run k v) x ≡ decoded encoding bytes x) e (value_at-set run k v inside ∙ is))
+      (cases_lt q k);
+  suit = λ q h. ⊎_elim
+      (λ (less : q < k). subst (SuitsEncoding encoding) (sym (value_at-set_other run k q v less)) (before.suit q less))
+      (λ (more : k ≤ q). let e : k ≡ q = omega arith in
+      subst (λ x. SuitsEncoding encoding (value_at (slice_set run k v) x)) e (subst (SuitsEncoding encoding) (sym (value_at-set run k v inside)) suits))
+      (cases_lt q k);
+}
+
+pub run_counted : (encoding : Encoding) (bytes : List ℕ) (run : List (Option ℤ)) (n m : ℕ) → n ≡ m → IsRunDecoded encoding bytes run n
+    → IsRunDecoded encoding bytes run m
+run_counted encoding bytes run n m same it = subst (IsRunDecoded encoding bytes run) same it
+
+-- the bytes of a run begin at its first number
+decoded_on : (encoding : Encoding) (bytes : List ℕ) (m k : ℕ)
+    → decoded encoding (take (length bytes - m * encoding.size) (drop (m * encoding.size) bytes)) k ≡ decoded encoding bytes (m + k)
+unfolding pixel_at
+decoded_on encoding bytes m k =
+    let size : ℕ = encoding.size in
+    let place : m * size + k * size ≡ (m + k) * size = grind arith in
+    ap (λ xs. value_stored_as encoding.zero encoding.blank (stored_number encoding.size (drop (k * size) xs))) (take_rest bytes (m * size))
+    ∙ ap (λ xs. value_stored_as encoding.zero encoding.blank (stored_number encoding.size xs))
+    (drop-drop (k * size) (m * size) bytes ∙ ap (λ n. drop n bytes) place)
+
+pub run_follows : (encoding : Encoding) (bytes : List ℕ) (first p count : ℕ) (run old middle new : List (Option ℤ)) → first ≤ p
+    → IsRunDecoded encoding (take (length bytes - (p - first) * encoding.size) (drop ((p - first) * encoding.size) bytes)) run count
+    → ((k : ℕ) → k < count → value_at new (p + k) ≡ value_at run k) → ((q : ℕ) → q < p → value_at new q ≡ value_at middle q)
+    → IsDecoded encoding bytes first p old middle → IsDecoded encoding bytes first (p + count) old new
+run_follows encoding bytes first p count run old middle new from it inside stayed before = record {
+  before = λ q h. stayed q (omega arith) ∙ before.before q h;
+  here = λ q low high. ⊎_elim
+      (λ (h : q < p). stayed q h ∙ before.here q low h)
+      (λ (h : p ≤ q).
+      let few : q - p < count = omega arith in
+      let there : p + (q - p) ≡ q = omega arith in
+      let place : (p - first) + (q - p) ≡ q - first = omega arith in
+      ap (value_at new) (sym there) ∙ inside (q - p) few ∙ it.values (q - p) few ∙ decoded_on encoding bytes (p - first) (q - p)
+      ∙ ap (decoded encoding bytes) place)
       (cases_lt q p);
 }
 
@@ -112,6 +164,23 @@ pub value_from : (encoding : Encoding) (bytes : List ℕ) (k : ℕ)
 unfolding pixel_at
 value_from encoding bytes k =
     ap (λ xs. value_stored_as encoding.zero encoding.blank (stored_number encoding.size xs)) (take_rest bytes (k * encoding.size))
+
+-- where all numbers have this size
+pub number_at : (encoding : Encoding) (bytes : List ℕ) (k size : ℕ) (number : ℤ) → encoding.size ≡ size
+    → number ≡ stored_number size (take (length bytes - k * size) (drop (k * size) bytes))
+    → value_stored_as encoding.zero encoding.blank number ≡ decoded encoding bytes k
+number_at encoding bytes k size number is same =
+    ap (value_stored_as encoding.zero encoding.blank)
+    (same ∙ ap (λ n. stored_number n (take (length bytes - k * n) (drop (k * n) bytes))) (sym is))
+    ∙ value_from encoding bytes k
+
+pub byte_at : (encoding : Encoding) (bytes : List ℕ) (k : ℕ) (number : ℤ) → encoding.size ≡ 1 → k < length bytes
+    → number ≡ pos (get_or bytes k 0) → value_stored_as encoding.zero encoding.blank number ≡ decoded encoding bytes k
+unfolding pixel_at
+byte_at encoding bytes k number is inside same =
+    let place : k * 1 ≡ k = omega arith in
+    let there : get_or (drop (k * 1) bytes) 0 0 ≡ get_or bytes k 0 = ap (λ n. get_or (drop n bytes) 0 0) place ∙ get_or-drop k bytes 0 0 ∙ ap (λ n. get_or bytes n 0) (omega arith) in
+    rw is (ap (value_stored_as encoding.zero encoding.blank) (same ∙ ap pos (sym there)))
 
 pub far_from : (encoding : Encoding) (bytes : List ℕ) (k : ℕ) (stored : ℤ) → (holds_narrow encoding.limits ≡ true → encoding.size ≡ 8)
     → IsFarNumber encoding.limits encoding.zero encoding.blank stored (stored_number encoding.size (take (length bytes - k * encoding.size) (drop (k * encoding.size) bytes)))

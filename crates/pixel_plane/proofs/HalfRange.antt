@@ -1,5 +1,5 @@
 -- The values of a plane that is read are within its limits.
-use Rattle.std.proofs.Common.{◌≡◌, ◌∙◌, ℕ, ◌<◌, inl, inr, true, false, List, length, get_or, set, replicate, refl, sym, ap, subst, arith, ℤ, pos, neg_ℤ, ◌≤ℤ◌, ◌*◌}
+use Rattle.std.proofs.Common.{◌≡◌, ◌∙◌, ℕ, ◌+◌, ◌-◌, ◌<◌, ◌≤◌, inl, inr, true, false, List, length, get_or, set, replicate, refl, sym, ap, subst, arith, ℤ, pos, neg_ℤ, ◌≤ℤ◌, ◌*◌}
 use Rattle.std.specs.Prelude.{slice_get, IfSome, nat_lt}
 use Rattle.std.specs.declared.option.Option.{Option}
 use Rattle.std.specs.Prelude.{Some, None}
@@ -61,6 +61,28 @@ set_in_range limits values p value here all = record { each = each }
     each q v is =
         by q v (omega (arith, slice_get_within (set values p value) q (Some v) is, length-set values p value))
         (get_or_from_slice_get (set values p value) q (Some v) None is)
+
+-- a run of further values
+pub run_in_range : (limits : Limits) (run old new : List (Option ℤ)) (first : ℕ) → length new ≡ length old
+    → ((k : ℕ) → k < length run → IfSome (value_at run k) (λ v. IsInRange limits v))
+    → ((k : ℕ) → k < length run → value_at new (first + k) ≡ value_at run k) → ((p : ℕ) → p < first → value_at new p ≡ value_at old p)
+    → ((p : ℕ) → first + length run ≤ p → value_at new p ≡ value_at old p) → HasValuesInLimits limits old → HasValuesInLimits limits new
+run_in_range limits run old new first same here inside before behind all = record { each = each }
+  where
+    by : (p : ℕ) (v : ℤ) → p < length new → value_at new p ≡ Some v → IsInRange limits v
+    by p v within is = elim (cases_lt p first) [
+      | inl less ↦ all.each p v (there old p v (omega (arith, within, same)) (sym (before p less) ∙ is))
+      | inr more ↦ elim (cases_lt p (first + length run)) [
+        | inl few ↦
+            let k : p - first < length run = omega (arith, few, more) in
+            let at : first + (p - first) ≡ p = omega (arith, more) in
+            is_in_range limits (value_at run (p - first)) v (here (p - first) k) (sym (inside (p - first) k) ∙ ap (value_at new) at ∙ is)
+        | inr past ↦ all.each p v (there old p v (omega (arith, within, same)) (sym (behind p past) ∙ is))
+      ]
+    ]
+
+    each : (p : ℕ) (v : ℤ) → slice_get new p ≡ Some (Some v) → IsInRange limits v
+    each p v is = by p v (slice_get_within new p (Some v) is) (get_or_from_slice_get new p (Some v) None is)
 
 -- what is within limits that suit so many pixels
 half_of : (limits : Limits) (count : ℕ) (v : ℤ) → SuitCount limits count → IsInRange limits v → IsWithin (half_bound count) v

@@ -1,5 +1,5 @@
 -- Bookkeeping: the steps of the reading.
-use Rattle.std.specs.Prelude.{◌≡◌, ℕ, ◌-◌, ◌*◌, ◌<◌, ◌≤◌, true, false, List, length, drop, ℤ}
+use Rattle.std.specs.Prelude.{◌≡◌, ℕ, ◌-◌, ◌*◌, ◌<◌, ◌≤◌, true, false, List, length, drop, ℤ, IfSome}
 use Rattle.std.specs.declared.option.Option.{Option}
 use Rattle.dev_io.specs.Streams.{Takes, TakesAtMost}
 use Rattle.comp_tree.specs.Raster.{value_at}
@@ -9,6 +9,8 @@ use Rattle.pixel_plane.specs.declared.fault.PlaneStop.{PlaneStop}
 use Rattle.pixel_plane.specs.declared.fault.PlaneStop.TheVariants.{Fault, ReadFault, OutOfMemory}
 use Rattle.pixel_plane.specs.Stored.{stored_number, value_stored_as, pixel_at, is_out_of_range, holds_narrow}
 use Rattle.pixel_plane.specs.Nearness.{most_of}
+use Rattle.pixel_plane.specs.WithinLimits.{IsInRange}
+use Rattle.comp_tree.specs.Limits.{IsWithin}
 
 -- the value of pixel p, where the numbers are encoded so
 abbrev pub decoded : Encoding → List ℕ → ℕ → Option ℤ
@@ -22,6 +24,16 @@ most_in encoding = most_of encoding.size encoding.zero encoding.blank encoding.l
 pub record IsDecoded (encoding : Encoding) (bytes : List ℕ) (first end : ℕ) (old new : List (Option ℤ)) : Type 0 where
   pub before : (p : ℕ) → p < first → value_at new p ≡ value_at old p
   pub here : (p : ℕ) → first ≤ p → p < end → value_at new p ≡ decoded encoding bytes (p - first)
+
+-- a value that a pixel of an image with these numbers can have, if it has one: it is in the limits, and within the bound
+pub record SuitsEncoding (encoding : Encoding) (value : Option ℤ) : Type 0 where
+  pub within : IfSome value (λ v. IsInRange encoding.limits v)
+  pub near : IfSome value (λ v. IsWithin (most_in encoding) v)
+
+-- the first n pixels of a run have the values of the numbers in these bytes
+pub record IsRunDecoded (encoding : Encoding) (bytes : List ℕ) (run : List (Option ℤ)) (n : ℕ) : Type 0 where
+  pub values : (k : ℕ) → k < n → value_at run k ≡ decoded encoding bytes k
+  pub suit : (k : ℕ) → k < n → SuitsEncoding encoding (value_at run k)
 
 -- number k of these bytes is this one, which has 8 bytes unless the limits leave out values of fewer, and its value is out of range
 pub record IsFar (encoding : Encoding) (bytes : List ℕ) (k : ℕ) (stored : ℤ) : Type 0 where

@@ -9,7 +9,7 @@ ghost use Rattle.pixel_plane.specs.Stored.{size_of, stored_number, value_stored_
 
 use crate::Limits;
 use byteorder::{BigEndian, ByteOrder};
-use comp_tree::Shape;
+use comp_tree::{Pixel, Shape};
 use fits_card::number::Whole;
 use fits_hdu::Hdu;
 
@@ -96,22 +96,22 @@ impl Encoding {
         farthest.unsigned_abs()
     }
 
-    /// The value that the first number of these bytes stands for, where it is never out of range.
-    pub(crate) fn value(&self, bytes: &[u8]) -> Option<i64>
-        requires room { self.now.size ≤ length bytes.now }
-        requires narrow { self.now.size ≢ 8 }
+    /// The pixel that a number of this size stands for, where it is never out of range.
+    #[inline(always)]
+    pub(crate) fn pixel_of(&self, stored: i64) -> Pixel
+        requires of_size { IsNumberOf self.now.size stored }
+        requires low { neg_ℤ (pos (2 ^ 32)) ≤ℤ stored }
+        requires high { stored ≤ℤ pos (2 ^ 32) }
         requires holds { holds_narrow self.now.limits ≡ true }
-        ensures value { result ≡
-            value_stored_as self.now.zero self.now.blank (stored_number self.now.size bytes.now) }
+        ensures value { result ≡ value_stored_as self.now.zero self.now.blank stored }
         ensures within { IfSome result (λ v. IsInRange self.now.limits v) }
         ensures near { IfSome result (λ v. IsWithin
             (most_of self.now.size self.now.zero self.now.blank self.now.limits) v) }
     {
-        let stored = self.stored(bytes);
         if self.blank == Some(stored) {
-            None
+            Pixel::of(None)
         } else {
-            Some(self.zero + stored)
+            Pixel::of(Some(self.zero + stored))
         }
     }
 
@@ -119,8 +119,6 @@ impl Encoding {
     fn stored(&self, bytes: &[u8]) -> i64
         requires room { self.now.size ≤ length bytes.now }
         ensures number { result ≡ stored_number self.now.size bytes.now }
-        ensures low { self.now.size ≢ 8 → neg_ℤ (pos (2 ^ 32)) ≤ℤ result }
-        ensures high { self.now.size ≢ 8 → result ≤ℤ pos (2 ^ 32) }
         ensures of_size { IsNumberOf self.now.size result }
     {
         match self.size {

@@ -9,6 +9,7 @@ mod image;
 mod input_fault;
 mod limits;
 mod read;
+mod runs;
 mod two_images;
 mod usual;
 

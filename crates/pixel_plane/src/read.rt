@@ -12,11 +12,18 @@ ghost use Rattle.pixel_plane.specs.Reading.{PlaneRead, PlaneStopped, NamesPixel}
 ghost use Rattle.pixel_plane.specs.Decoding.{most_in, PixelsRead, PixelsStopped, BytesStopped, RestStopped, IsDecoded, FarInside, NamesNone, NamesOnly, NamesFar};
 
 use crate::encoding::Encoding;
+use crate::runs::decode_run;
 use crate::{Limits, PixelPlace, PlaneFault, PlaneStop};
-use comp_tree::{Canvas, Plane, Shape};
+use comp_tree::{Canvas, Pixel, Plane, Shape};
 use dev_io::{BLOCK, Source, fill, skip};
 use fits_hdu::Hdu;
 use std::alloc::Global;
+
+// So many bytes are taken at once, eight blocks: it costs less than to ask the source for each block.
+const AT_ONCE: usize = 8 * BLOCK;
+
+// So many pixels are decoded before the canvas gets them.
+const RUN: u32 = 1024;
 
 /// The plane of an image whose data are the next bytes, row by row. A pixel has the value BZERO and its stored number together, and is
 /// undefined where the stored number is BLANK (FITS Standard 4.0, section 4.4.2.5). All memory is taken before the first byte. A pixel
@@ -99,8 +106,8 @@ fn read_pixels<S: Source>(
 {
     let count = canvas.shape().pixels();
     // A block holds a whole number of pixels of each size.
-    let most = (BLOCK / encoding.size) as u32;
-    let mut block = [0; BLOCK];
+    let most = (AT_ONCE / encoding.size) as u32;
+    let mut block = [0; AT_ONCE];
     let mut first = 0;
     while first < count {
         let end = count.min(first + most);
@@ -185,7 +192,9 @@ fn decode(
     decode_compared(encoding, bytes, canvas, first, end)
 }
 
+// A run of pixels at a time, so that neither what size a number has nor how the canvas keeps pixels is asked for each.
 fn decode_narrow(encoding: &Encoding, bytes: &[u8], canvas: &mut Canvas, first: u32, end: u32)
+    requires order { first ≤ end }
     requires narrow { encoding.now.size ≢ 8 }
     requires holds { holds_narrow encoding.now.limits ≡ true }
     requires room { (end - first) * encoding.now.size ≤ length bytes.now }
@@ -198,9 +207,15 @@ fn decode_narrow(encoding: &Encoding, bytes: &[u8], canvas: &mut Canvas, first: 
     ensures in_limits { HasValuesInLimits encoding.now.limits canvas.new.values }
     ensures decoded { IsDecoded encoding.now bytes.now first end canvas.old.values canvas.new.values }
 {
-    for p in first..end {
+    let mut pixels = [Pixel::of(None); RUN as usize];
+    let mut p = first;
+    while p < end {
+        let count = (end - p).min(RUN);
+        let run = &mut pixels[..count as usize];
         let at = (p - first) as usize * encoding.size;
-        canvas.set(p, encoding.value(&bytes[at..]));
+        decode_run(encoding, &bytes[at..], run);
+        canvas.put_pixels(p, run);
+        p += count;
     }
 }
 

@@ -230,23 +230,35 @@ fn the_least_number_of_32_bits_is_read(rt: HostRuntime) -> Result<(), Fail> {
     Ok(())
 }
 
-// More pixels than are read at once.
+// More bytes than are taken at once, and more pixels than are decoded at once, with each size that has a loop of its own: the last
+// pixel of all, and the last one of the first eight blocks.
 #[test]
-fn a_pixel_behind_the_first_block_is_read(rt: HostRuntime) -> Result<(), Fail> {
-    let hdu = Hdu {
-        bitpix: 8,
-        width: 2881,
-        data_bytes: 2881,
-        bzero: Whole::Is(0),
-        blank: None,
-        ..IMAGE
-    };
-    let shape = check_image(&hdu)?;
-    let mut source = PlainSource::new(&[7; 2881]);
-    let plane = read_plane(rt.alloc(), &mut source, &hdu, shape).expect(&rt, "a plane");
-    assert_eq!(rt; plane.shape().pixels(), 2881);
-    assert_eq!(rt; plane.get(2880), Some(7));
-    assert!(rt; source.rest().is_empty());
+fn a_pixel_behind_the_first_blocks_is_read(rt: HostRuntime) -> Result<(), Fail> {
+    let mut bytes = [0; 23_044];
+    bytes[23_039] = 5;
+    bytes[23_043] = 9;
+    for (bitpix, width, inner) in [
+        (8, 23_044, 23_039),
+        (16, 11_522, 11_519),
+        (32, 5_761, 5_759),
+    ] {
+        let hdu = Hdu {
+            bitpix,
+            width,
+            data_bytes: 23_044,
+            bzero: Whole::Is(0),
+            blank: None,
+            ..IMAGE
+        };
+        let shape = check_image(&hdu)?;
+        let mut source = PlainSource::new(&bytes);
+        let plane = read_plane(rt.alloc(), &mut source, &hdu, shape).expect(&rt, "a plane");
+        assert!(rt; inner < plane.shape().pixels());
+        assert_eq!(rt; plane.get(inner), Some(5));
+        let last = plane.shape().pixels() - 1;
+        assert_eq!(rt; plane.get(last), Some(9));
+        assert!(rt; source.rest().is_empty());
+    }
     Ok(())
 }
 
@@ -304,16 +316,16 @@ fn the_least_pixel_out_of_range_is_answered_at_the_end(rt: HostRuntime) -> Resul
     Ok(())
 }
 
-// More pixels than are read at once: the bytes behind those at hand are taken too, and where they are cut that goes before.
+// More bytes than are taken at once: those behind the ones at hand are taken too, and where they are cut that goes before.
 #[test]
 fn a_pixel_out_of_range_is_answered_behind_all_blocks(rt: HostRuntime) -> Result<(), Fail> {
     let hdu = Hdu {
-        width: 361,
-        data_bytes: 2888,
+        width: 2881,
+        data_bytes: 23_048,
         ..WIDE
     };
     let shape = check_image(&hdu)?;
-    let mut source = PlainSource::new(&[0x80; 2889]);
+    let mut source = PlainSource::new(&[0x80; 23_049]);
     assert!(rt;
         matches!(
             read_plane(rt.alloc(), &mut source, &hdu, shape),
@@ -324,7 +336,7 @@ fn a_pixel_out_of_range_is_answered_behind_all_blocks(rt: HostRuntime) -> Result
         )
     );
     assert_eq!(rt; source.rest(), &[0x80][..]);
-    let mut cut = PlainSource::new(&[0x80; 2887]);
+    let mut cut = PlainSource::new(&[0x80; 23_047]);
     assert!(rt;
         matches!(
             read_plane(rt.alloc(), &mut cut, &hdu, shape),

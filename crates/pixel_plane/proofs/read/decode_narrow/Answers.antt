@@ -1,24 +1,23 @@
-use Rattle.std.proofs.Common.{◌≡◌, ◌-◌, ◌∙◌, ◌<◌, length, arith}
-use Rattle.std.proofs.lemmas.List.{length-set}
-use Rattle.pixel_plane.specs.Decoding.{decoded, most_in}
-use Rattle.pixel_plane.proofs.HalfRange.{set_in_range}
-use Rattle.pixel_plane.proofs.Nearness.{settable}
-use Rattle.pixel_plane.proofs.Decoding.{decoded_next, value_from}
+use Rattle.std.proofs.Common.{◌≡◌, ◌∙◌, length, sym, arith, rules}
+use Rattle.pixel_plane.proofs.HalfRange.{run_in_range}
+use Rattle.pixel_plane.proofs.Decoding.{run_counted, run_follows}
 use Rattle.pixel_plane.proofs.read.decode_narrow.Goals as goal
 
 pub loop-p-preserved : goal.loop-p-preserved
 loop-p-preserved c =
-    let inside : c.loop-p.p < length c.loop-p.canvas.values = omega (arith, c.loop-p-test.true, c.requires.within, c.loop-p.invariant.count) in
-    let value : c.value.result ≡ decoded c.args.encoding.now c.args.bytes.now (c.loop-p.p - c.args.first) =
-    c.value.ensures.value ∙ value_from c.args.encoding.now c.args.bytes.now (c.loop-p.p - c.args.first) in
-    rw c.set.ensures (record {
-      shape = c.loop-p.invariant.shape;
-      count = length-set _ _ _ ∙ c.loop-p.invariant.count;
-      most = c.loop-p.invariant.most;
-      in_limits = set_in_range _ _ _ _ c.value.ensures.within c.loop-p.invariant.in_limits;
-      decoded = decoded_next _ _ _ _ _ _ _ c.loop-p.auto.p inside value c.loop-p.invariant.decoded;
-    })
-
-pub set-requires-clause-in_range : goal.set-requires-clause-in_range
-set-requires-clause-in_range c =
-    settable c.loop-p.canvas.most (most_in c.args.encoding.now) c.value.result (c.loop-p.invariant.most ∙ c.requires.most) c.value.ensures.near
+    let size : length c.decode_run.new.run ≡ c.min-count.result = search rules in
+    let decoded = run_counted c.args.encoding.now _ c.decode_run.new.run _ c.min-count.result (sym c.decode_run.ensures.one_each ∙ size)
+    c.decode_run.ensures.decoded in
+    record {
+      from = search rules;
+      within = search rules;
+      shape = search rules;
+      count = search rules;
+      most = search rules;
+      in_limits = run_in_range c.args.encoding.now.limits c.decode_run.new.run c.loop-p.canvas.values c.put_pixels.new.self.values c.loop-p.p
+          c.put_pixels.ensures.one_each (λ k h. (decoded.suit k (omega (arith, h, size))).within) c.put_pixels.ensures.inside
+          c.put_pixels.ensures.before c.put_pixels.ensures.behind c.loop-p.invariant.in_limits;
+      decoded = run_follows c.args.encoding.now c.args.bytes.now c.args.first c.loop-p.p c.min-count.result c.decode_run.new.run
+          c.args.canvas.now.values c.loop-p.canvas.values c.put_pixels.new.self.values c.loop-p.invariant.from
+          decoded (λ k h. c.put_pixels.ensures.inside k (omega (arith, h, size))) c.put_pixels.ensures.before c.loop-p.invariant.decoded;
+    }
