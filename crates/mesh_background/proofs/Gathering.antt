@@ -1,8 +1,8 @@
--- The values of the defined pixels of a list, gathered one by one.
+-- The values of the defined pixels of a list, gathered run by run.
 use Rattle.std.proofs.Common.{◌≡◌, ℕ, ◌+◌, ◌-◌, ◌*◌, ◌<◌, ◌≤◌, suc, min, cond, List, [], ◌∷◌, ◌++◌, length, map, refl, sym, ap, ◌∙◌, arith}
 use Rattle.std.specs.Prelude.{ℤ, pos, filter, Option, Some, None, unwrap_or, is_some, slice_get}
 use Rattle.std.specs.Option.{option_to_list}
-use Rattle.std.specs.List.{range_with_len}
+use Rattle.std.specs.List.{flat_map, range_with_len}
 use Rattle.std.proofs.lemmas.List.{map-append, append-nil, append_assoc}
 use Rattle.std.proofs.lemmas.List.Elements.{filter-append}
 use Rattle.std.proofs.Math.Nat.{mul-le-mul_right}
@@ -28,31 +28,40 @@ defined-one r p = go (value_at r.values p) refl
     go None e = refl
     go (Some v) e = ap (λ (o : Option ℤ). unwrap_or o (pos 0) ∷ []) e
 
--- one more pixel
-range-next : (first p : ℕ) → first ≤ p → range_with_len first (p + 1 - first) ≡ range_with_len first (p - first) ++ p ∷ []
-range-next first p le =
-    let long : p + 1 - first ≡ p - first + 1 = omega arith in
-    ap (range_with_len first) long ∙ range-append first (p - first) 1 p (omega arith)
+-- a run of values, of which each is that of a pixel from `first` on
+pub run-values : (r : Raster) (first : ℕ) (run : List (Option ℤ))
+    → ((k : ℕ) → k < length run → value_at run k ≡ value_at r.values (first + k))
+    → flat_map option_to_list run ≡ defined_values r (range_with_len first (length run))
+run-values r first [] h = sym (defined-none r)
+run-values r first (o ∷ run) h =
+    let here : o ≡ value_at r.values first = h 0 (omega arith) ∙ ap (value_at r.values) (first-place first) in
+    let rest : flat_map option_to_list run ≡ defined_values r (range_with_len (first + 1) (length run)) =
+    run-values r (first + 1) run (λ k lt. h (suc k) (omega (arith, lt)) ∙ ap (value_at r.values) (next-place first k)) in
+    ap (λ (xs : List ℤ). xs ++ flat_map option_to_list run) (ap (λ (v : Option ℤ). option_to_list v) here ∙ sym (defined-one r first))
+    ∙ ap (λ (xs : List ℤ). defined_values r (first ∷ []) ++ xs) rest
+    ∙ sym (defined-append r (first ∷ []) (range_with_len (first + 1) (length run)))
+  where
+    first-place : (n : ℕ) → n + 0 ≡ n
+    first-place n = omega arith
 
--- the values so far are those of the pixels from `first` up to p, behind the old ones
-pub gathered-none : (r : Raster) (first p : ℕ) (old : List ℤ) → p ≡ first → old ≡ old ++ defined_values r (range_with_len first (p - first))
-gathered-none r first p old e =
-    let none : p - first ≡ 0 = omega arith in
-    sym (append-nil old) ∙ ap (λ (xs : List ℤ). old ++ xs) (sym (defined-none r)) ∙ ap (λ (n : ℕ). old ++ defined_values r (range_with_len first n)) (sym none)
+    next-place : (n k : ℕ) → n + suc k ≡ n + 1 + k
+    next-place n k = omega arith
 
-pub gathered-next : (r : Raster) (first p : ℕ) (old items new : List ℤ) → first ≤ p → items ≡ old ++ defined_values r (range_with_len first (p - first))
-    → new ≡ items ++ option_to_list (value_at r.values p) → new ≡ old ++ defined_values r (range_with_len first (p + 1 - first))
-gathered-next r first p old items new le here is =
-    let seen : List ℤ = defined_values r (range_with_len first (p - first)) in
-    let more : List ℤ = option_to_list (value_at r.values p) in
-    is ∙ ap (λ (xs : List ℤ). xs ++ more) here ∙ append_assoc old seen more ∙ ap (λ (xs : List ℤ). old ++ (seen ++ xs)) (sym (defined-one r p))
-    ∙ ap (λ (xs : List ℤ). old ++ xs) (sym (defined-append r (range_with_len first (p - first)) (p ∷ [])))
-    ∙ ap (λ (ps : List ℕ). old ++ defined_values r ps) (sym (range-next first p le))
+-- the values so far are those of the first n pixels from `first` on, behind the old ones
+pub gathered-none : (r : Raster) (first : ℕ) (old : List ℤ) → old ≡ old ++ defined_values r (range_with_len first 0)
+gathered-none r first old = sym (append-nil old) ∙ ap (λ (xs : List ℤ). old ++ xs) (sym (defined-none r))
 
-pub gathered-all : (r : Raster) (first p end : ℕ) (old items : List ℤ) → p - first ≡ end - first
-    → items ≡ old ++ defined_values r (range_with_len first (p - first))
-    → items ≡ old ++ defined_values r (range_with_len first (end - first))
-gathered-all r first p end old items e here = here ∙ ap (λ (n : ℕ). old ++ defined_values r (range_with_len first n)) e
+-- those of the m next ones, from p on, follow
+pub gathered-more : (r : Raster) (first n m p count : ℕ) (old items new : List ℤ) → p ≡ first + n → n + m ≡ count
+    → items ≡ old ++ defined_values r (range_with_len first n) → new ≡ items ++ defined_values r (range_with_len p m)
+    → new ≡ old ++ defined_values r (range_with_len first count)
+gathered-more r first n m p count old items new at long here is =
+    let seen : List ℤ = defined_values r (range_with_len first n) in
+    let more : List ℤ = defined_values r (range_with_len p m) in
+    is ∙ ap (λ (xs : List ℤ). xs ++ more) here ∙ append_assoc old seen more
+    ∙ ap (λ (xs : List ℤ). old ++ xs) (sym (defined-append r (range_with_len first n) (range_with_len p m)))
+    ∙ ap (λ (ps : List ℕ). old ++ defined_values r ps) (sym (range-append first n m p at))
+    ∙ ap (λ (q : ℕ). old ++ defined_values r (range_with_len first q)) long
 
 -- ---- the rows of a cell
 

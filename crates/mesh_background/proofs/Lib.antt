@@ -13,7 +13,6 @@ mod HalfRanges
 mod Lessening
 mod Rows
 mod Bands
-mod Greatest
 mod Differences
 mod Sides
 mod Seeing

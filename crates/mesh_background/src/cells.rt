@@ -1,19 +1,22 @@
 //! The numbers of the cells: the lower medians of their defined pixels.
 
 ghost use Rattle.std.specs.Prelude.{◌≡◌, ◌+◌, ◌-◌, ◌*◌, ◌<◌, ◌≤◌, ◌++◌, ℕ, length, map, slice_get, unwrap_or, Some, None, IfOk, OnOk};
-ghost use Rattle.std.specs.List.{range_with_len};
+ghost use Rattle.std.specs.List.{flat_map, range_with_len};
 ghost use Rattle.std.specs.Option.{option_to_list};
-ghost use Rattle.comp_tree.specs.Raster.{Raster, value_at};
+ghost use Rattle.comp_tree.specs.Raster.{Raster};
 ghost use Rattle.mesh_background.specs.Medians.{lower_median as lower_median_of};
 ghost use Rattle.mesh_background.specs.Mesh.{cell_count, cell_pixels, defined_values, image_value, empty_value, values_of_mesh};
 
 use crate::grid::Grid;
 use crate::median::lower_median;
-use comp_tree::Plane;
+use comp_tree::{Pixel, Plane};
 use costs::OutOfMemory;
 use rayon::prelude::*;
 use std::alloc::Global;
 use std::thread::Threads;
+
+// How many pixels are copied together: as many as a row of a cell has under the usual mesh.
+const TOGETHER: u32 = 64;
 
 /// The number of each cell of the mesh, row by row: the lower median of the cell's defined pixels. A cell that has none gets
 /// that of all defined pixels of the image, or 0 where the image has none either.
@@ -120,8 +123,8 @@ fn cell_members(
     Ok(members)
 }
 
-// Appends the values of the defined pixels from `first` up to `end`.
-#[inline(always)]
+// Appends the values of the defined pixels from `first` up to `end`. How the plane keeps its pixels is asked for once a
+// run of them, and not for each.
 fn push_values(
     plane: &Plane,
     first: u32,
@@ -133,20 +136,49 @@ fn push_values(
     ensures { OnOk result (members.new.items
         ≡ members.old.items ++ defined_values plane.now (range_with_len first (end - first))) }
 {
-    for p in first..end {
-        push_value(plane, p, members)?;
+    let mut run = [Pixel::of(None); TOGETHER as usize];
+    let whole = (end - first) / TOGETHER;
+    for k in 0..whole {
+        push_run(plane, first + k * TOGETHER, &mut run, members)?;
+    }
+    let rest = (end - first) % TOGETHER;
+    push_run(plane, end - rest, &mut run[..rest as usize], members)
+}
+
+// Appends those of the pixels from `first` on, as many as `run` has room for.
+#[inline]
+fn push_run(
+    plane: &Plane,
+    first: u32,
+    run: &mut [Pixel],
+    members: &mut Vec<i64>,
+) -> Result<(), OutOfMemory>
+    requires within { first + length run.old ≤ length plane.now.values }
+    ensures one_each { length run.new ≡ length run.old }
+    ensures pushed { OnOk result (members.new.items
+        ≡ members.old.items ++ defined_values plane.now (range_with_len first (length run.old))) }
+{
+    plane.copy_pixels(first, run);
+    push_defined(run, members)
+}
+
+// Appends the values of those pixels that have one.
+#[inline]
+fn push_defined(run: &[Pixel], members: &mut Vec<i64>) -> Result<(), OutOfMemory>
+    ensures { OnOk result (members.new.items ≡ members.old.items ++ flat_map option_to_list run.now) }
+{
+    for pixel in run {
+        push_value(*pixel, members)?;
     }
     Ok(())
 }
 
 // Appends the value of a pixel, if it is defined.
-#[inline]
-fn push_value(plane: &Plane, p: u32, members: &mut Vec<i64>) -> Result<(), OutOfMemory>
-    requires { p < length plane.now.values }
-    ensures { OnOk result (members.new.items
-        ≡ members.old.items ++ option_to_list (value_at plane.now.values p)) }
+#[inline(always)]
+fn push_value(pixel: Pixel, members: &mut Vec<i64>) -> Result<(), OutOfMemory>
+    ensures { OnOk result (members.new.items ≡ members.old.items ++ option_to_list pixel) }
 {
-    if let Some(value) = plane.get(p) {
+    if let Some(value) = pixel.value() {
         members.push(value)?;
     }
     Ok(())

@@ -36,7 +36,7 @@ use std::thread::Threads;
 /// cells whose centres lie around the pixel's. With mesh 0 it is 0 everywhere, so the residual equals the plane.
 ///
 /// The residual is made in the place of the plane. The one error is that memory was refused. The pixels are lessened in
-/// `parts` bands, and at least 64 where values are small, as by `subtract_background`.
+/// `parts` bands, and at least 1,024 where values are small, as by `subtract_background`.
 pub fn residual<R: Threads + Sync>(
     rt: &R,
     alloc: Global,
@@ -74,7 +74,7 @@ pub fn residual_with<R: Threads + Sync>(
 /// Makes of a plane its residual, in place.
 ///
 /// The pixels are lessened in `parts` bands of whole rows, each in a thread of its own where one can be made; 0 counts
-/// as 1. Where values are small, so that what is left is sure to be below 2^31, less than 64 counts as 64. The one error
+/// as 1. Where values are small, so that what is left is sure to be below 2^31, less than 1,024 counts as 1,024. The one error
 /// is that memory was refused; the plane is as it was then.
 pub fn subtract_background<R: Threads + Sync>(
     rt: &R,
@@ -235,22 +235,10 @@ fn bound_of_values(plane: &Plane) -> u64
     if told < 1 << 30 {
         return told;
     }
-    greatest_value(plane)
+    plane.farthest()
 }
 
-// How far from 0 a value lies at the most.
-fn greatest_value(plane: &Plane) -> u64
-    ensures within { HasValuesWithin result plane.now.values }
-    ensures bounded { result ≤ value_bound (length plane.now.values) }
-{
-    let mut greatest = 0;
-    for p in 0..plane.shape().pixels() {
-        greatest = with_value(greatest, plane.get(p));
-    }
-    greatest
-}
-
-// A bound, or how far from 0 a pixel's value lies where that is farther.
+// A bound, or how far from 0 this value lies where that is farther.
 #[inline(always)]
 fn with_value(bound: u64, value: Option<i64>) -> u64
     requires { IfSome value (λ v. IsWithinRange v) }
@@ -273,9 +261,14 @@ fn range_of(count: u32) -> u64
 }
 
 // How many bands are asked for. Values below 2^31 may be kept in four bytes a pixel; then the bands are changed one after
-// the other, in a buffer of eight bytes a pixel. Small bands keep it small.
+// the other, in a buffer of eight bytes a pixel. Small bands keep it in a
+// processor's cache.
 fn parts_for(most: u64, parts: u32) -> u32 {
-    if most < 1 << 31 { parts.max(64) } else { parts }
+    if most < 1 << 31 {
+        parts.max(1024)
+    } else {
+        parts
+    }
 }
 
 // Lessens the pixels of a band, of which the first one is pixel `start` of the image.

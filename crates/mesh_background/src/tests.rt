@@ -109,6 +109,19 @@ fn medians_of_an_image_under_several_meshes(rt: HostRuntime) -> Result<(), Fail>
     try_medians(&rt, rt.alloc(), &plane, 65535, &[3])
 }
 
+// A row of more pixels than are copied together: the first and the last pixel of both runs are defined.
+#[test]
+fn medians_of_a_long_row(rt: HostRuntime) -> Result<(), Fail> {
+    let mut values = [U; 70];
+    values[0] = 1;
+    values[63] = 5;
+    values[64] = 3;
+    values[69] = 7;
+    let plane = plane_of(rt.alloc(), 70, 1, &values)?;
+    try_medians(&rt, rt.alloc(), &plane, 64, &[1, 3])?;
+    try_medians(&rt, rt.alloc(), &plane, 65535, &[3])
+}
+
 #[test]
 fn an_image_without_defined_pixels_has_zeros(rt: HostRuntime) -> Result<(), Fail> {
     let plane = plane_of(rt.alloc(), 2, 1, &[U, U])?;
