@@ -21,7 +21,7 @@ use Rattle.source_pick.specs.Catalogue.{measured_row, catalogue_row, catalogue_o
 use Rattle.source_pick.proofs.Exported.{numbers-length, source_from_among}
 use Rattle.dual_measure.specs.Measures.{measure_of, back_of}
 use Rattle.dual_measure.specs.Columns.{measured_cells_of}
-use Rattle.measure_top.specs.declared.picking_near.PickedNode.{PickedNode}
+use Rattle.source_sheet.specs.declared.tops.PickedSource.{PickedSource}
 use Rattle.measure_top.specs.MeasuredCatalogues.{row_with_measure, rows_with_measures}
 use Rattle.measure_top.specs.Cuts.{cut, node_in_cut}
 use Rattle.measure_top.specs.Picks.{AreNodesOf, HaveBasesFrom, StandIn, cells_at, all_cells}
@@ -52,18 +52,18 @@ parent_from_base r connect h n low child =
 -- ---- one source
 
 -- the node was picked as the source n of the plane with this number, and its base isn't below h
-record IsPickedAs (r : Raster) (connect : Connect) (h : ℤ) (number n : ℕ) (node : PickedNode) : Type 0 where
+record IsPickedAs (r : Raster) (connect : Connect) (h : ℤ) (number n : ℕ) (node : PickedSource) : Type 0 where
   within : n < length (nodes r connect)
   row_is : node.row ≡ catalogue_row r connect number n
   rep_is : node.rep ≡ top_of r connect n
   low : h ≤ℤ node.row.base
 
-base_low : (r : Raster) (connect : Connect) (h : ℤ) (number n : ℕ) (node : PickedNode) → IsPickedAs r connect h number n node
+base_low : (r : Raster) (connect : Connect) (h : ℤ) (number n : ℕ) (node : PickedSource) → IsPickedAs r connect h number n node
     → h ≤ℤ base_of (tree_of r connect) n
 unfolding catalogue_row measured_row
 base_low r connect h number n node k = subst (λ (z : ℤ). h ≤ℤ z) (ap (λ (row : CatRow). row.base) k.row_is) k.low
 
-stands : (r : Raster) (connect : Connect) (h : ℤ) (number n : ℕ) (node : PickedNode) → IsPlane r → IsPickedAs r connect h number n node
+stands : (r : Raster) (connect : Connect) (h : ℤ) (number n : ℕ) (node : PickedSource) → IsPlane r → IsPickedAs r connect h number n node
     → (node.rep < length r.values) × (node_in_cut r connect h node.rep < length (nodes (cut r h) connect))
 stands r connect h number n node plane k = (
   subst (λ p. p < length r.values) (sym k.rep_is) (below_from_defined r (top_of r connect n) (top-defined r connect n k.within)),
@@ -71,7 +71,7 @@ stands r connect h number n node plane k = (
       (node_there r connect h n plane k.within (level_from_base r connect h n plane k.within (base_low r connect h number n node k))),
 )
 
-cells_same : (r values : Raster) (connect : Connect) (h : ℤ) (number n : ℕ) (node : PickedNode) → IsPlane r → IsPickedAs r connect h number n node
+cells_same : (r values : Raster) (connect : Connect) (h : ℤ) (number n : ℕ) (node : PickedSource) → IsPlane r → IsPickedAs r connect h number n node
     → cells_at (cut r h) values connect node ≡ row_with_measure r values connect number n
 unfolding cells_at row_with_measure
 cells_same r values connect h number n node plane k = λ i. measured_cells_of (k.row_is i) (measure i) (back i)
@@ -93,10 +93,10 @@ cells_same r values connect h number n node plane k = λ i. measured_cells_of (k
 -- ---- all of them
 
 -- each node was picked as the source at its place, with numbers that rise from this one
-abbrev ArePickedAs : Raster → Connect → ℤ → ℕ → List ℕ → List PickedNode → Type 0
+abbrev ArePickedAs : Raster → Connect → ℤ → ℕ → List ℕ → List PickedSource → Type 0
 ArePickedAs r connect h number picked found = ArePaired (λ e node. IsPickedAs r connect h e.0 e.1 node) (enumerate_from number picked) found
 
-picked_as : (r : Raster) (connect : Connect) (h : ℤ) (number : ℕ) (picked : List ℕ) (found : List PickedNode)
+picked_as : (r : Raster) (connect : Connect) (h : ℤ) (number : ℕ) (picked : List ℕ) (found : List PickedSource)
     → ((n : ℕ) → IsAmong n picked → n < length (nodes r connect))
     → map (λ n. n.row) found ≡ map (λ e. catalogue_row r connect e.0 e.1) (enumerate_from number picked)
     → map (λ n. n.rep) found ≡ map (top_of r connect) picked
@@ -119,7 +119,7 @@ each_second R P _ _ so at_end k z at = absurd (cc)
 each_second R P _ _ so (at_more {x} {y} {xs} {ys} pair rest) zero z at = let same : y ≡ z = cc in subst P same (so x y pair)
 each_second R P _ _ so (at_more {x} {y} {xs} {ys} pair rest) (suc k) z at = each_second R P xs ys so rest k z at
 
-sources_picked : (r : Raster) (connect : Connect) (choice : Choice) (h : ℤ) (found : List PickedNode) → IsPlane r
+sources_picked : (r : Raster) (connect : Connect) (choice : Choice) (h : ℤ) (found : List PickedSource) → IsPlane r
     → AreNodesOf r connect (sources r connect choice) found → HaveBasesFrom h found
     → ArePickedAs r connect h 1 (sources r connect choice) found
 unfolding catalogue_of
@@ -131,11 +131,11 @@ unfolding cut
 shape-cut r h = refl
 
 -- the sources are nodes of the cut plane's tree
-pub sources_stand : (r plane : Raster) (connect : Connect) (choice : Choice) (h : ℤ) (tree : ComponentTree) (found : List PickedNode) → IsPlane r
+pub sources_stand : (r plane : Raster) (connect : Connect) (choice : Choice) (h : ℤ) (tree : ComponentTree) (found : List PickedSource) → IsPlane r
     → plane ≡ cut r h
     → tree ≡ tree_of plane connect → AreNodesOf r connect (sources r connect choice) found → HaveBasesFrom h found → StandIn tree found
 sources_stand r plane connect choice h tree found one is tree_is are low k node at =
-    let stand = each_second _ (λ (n : PickedNode). (n.rep < length r.values) × (node_in_cut r connect h n.rep < length (nodes (cut r h) connect))) _ found
+    let stand = each_second _ (λ (n : PickedSource). (n.rep < length r.values) × (node_in_cut r connect h n.rep < length (nodes (cut r h) connect))) _ found
     (λ e n c. stands r connect h e.0 e.1 n one c) (sources_picked r connect choice h found one are low) k node at in
     let cut_tree = tree_is ∙ ap (λ (p : Raster). tree_of p connect) is in
     let many = numbers-length (cut r h) connect tree cut_tree in
@@ -144,7 +144,7 @@ sources_stand r plane connect choice h tree found one is tree_is are low k node 
     (omega (arith, stand.0, many, length-cut r h), omega (arith, stand.1, rows, number))
 
 -- and their cells there are those of their rows
-pub sources_measured : (r plane values : Raster) (connect : Connect) (choice : Choice) (h : ℤ) (found : List PickedNode) → IsPlane r → plane ≡ cut r h
+pub sources_measured : (r plane values : Raster) (connect : Connect) (choice : Choice) (h : ℤ) (found : List PickedSource) → IsPlane r → plane ≡ cut r h
     → AreNodesOf r connect (sources r connect choice) found → HaveBasesFrom h found
     → all_cells plane values connect found ≡ rows_with_measures r values connect (sources r connect choice)
 unfolding all_cells rows_with_measures

@@ -26,7 +26,7 @@ use Rattle.comp_tree.proofs.Exported.{read-node_of}
 use Rattle.node_sums.proofs.Exported.{rows_are}
 use Rattle.source_pick.proofs.Exported.{numbers-length}
 use Rattle.dual_measure.proofs.Exported.{one_for_each}
-use Rattle.measure_top.specs.declared.picking_near.PickedNode.{PickedNode}
+use Rattle.source_sheet.specs.declared.tops.PickedSource.{PickedSource}
 use Rattle.measure_top.specs.Picks.{StandIn, cells_at, all_cells}
 
 -- ---- a row that fits its columns
@@ -63,13 +63,13 @@ row_table row measure back h sizes =
 -- ---- rows one behind the other
 
 -- these are the cells of the first count of some nodes
-pub record AreMeasuredRows (tree : ComponentTree) (measures : List Measure) (picked : List PickedNode) (count : ℕ) (items : List ℤ) : Type 0 where
+pub record AreMeasuredRows (tree : ComponentTree) (measures : List Measure) (picked : List PickedSource) (count : ℕ) (items : List ℤ) : Type 0 where
   pub table : IsTable measured_columns items
   pub many : length items ≡ measured_cells_in_row * count
   pub exact : (plane values : Raster) (connect : Connect) → IsPlane plane → tree ≡ tree_of plane connect → measures ≡ measures_of values plane connect
       → items ≡ all_cells plane values connect (take count picked)
 
-pub before_rows : (tree : ComponentTree) (measures : List Measure) (picked : List PickedNode) (items : List ℤ) → items ≡ []
+pub before_rows : (tree : ComponentTree) (measures : List Measure) (picked : List PickedSource) (items : List ℤ) → items ≡ []
     → AreMeasuredRows tree measures picked 0 items
 unfolding all_cells
 before_rows tree measures picked items empty = record {
@@ -78,17 +78,17 @@ before_rows tree measures picked items empty = record {
   exact = λ plane values connect one is these. empty;
 }
 
-one_more : (plane values : Raster) (connect : Connect) (picked : List PickedNode) (count : ℕ) (d : PickedNode) → count < length picked
+one_more : (plane values : Raster) (connect : Connect) (picked : List PickedSource) (count : ℕ) (d : PickedSource) → count < length picked
     → all_cells plane values connect (take (count + 1) picked) ≡ all_cells plane values connect (take count picked)
     ++ cells_at plane values connect (get_or picked count d)
 unfolding all_cells
 one_more plane values connect picked count d within =
-    let cells : PickedNode → List ℤ = cells_at plane values connect in
+    let cells : PickedSource → List ℤ = cells_at plane values connect in
     ap (flat_map cells) (take_more picked count d within)
     ∙ flat_map-append cells (take count picked) (get_or picked count d ∷ [])
     ∙ ap (λ l. flat_map cells (take count picked) ++ l) (append-nil _)
 
-pub rows_more : (tree : ComponentTree) (measures : List Measure) (picked : List PickedNode) (count : ℕ) (d : PickedNode) (items items' row : List ℤ)
+pub rows_more : (tree : ComponentTree) (measures : List Measure) (picked : List PickedSource) (count : ℕ) (d : PickedSource) (items items' row : List ℤ)
     → AreMeasuredRows tree measures picked count items → length picked ≤ 2147483647 → count < length picked → items' ≡ items ++ row
     → length row ≡ measured_cells_in_row → IsTable measured_columns row
     → ((plane values : Raster) (connect : Connect) → IsPlane plane → tree ≡ tree_of plane connect → measures ≡ measures_of values plane connect
@@ -108,7 +108,7 @@ rows_more tree measures picked count d items items' row before few within more c
           ∙ sym (one_more plane values connect picked count d within);
     }
 
-pub all_rows : (tree : ComponentTree) (measures : List Measure) (picked : List PickedNode) (count : ℕ) (items : List ℤ)
+pub all_rows : (tree : ComponentTree) (measures : List Measure) (picked : List PickedSource) (count : ℕ) (items : List ℤ)
     → AreMeasuredRows tree measures picked count items
     → length picked ≤ count → (plane values : Raster) (connect : Connect) → IsPlane plane → tree ≡ tree_of plane connect
     → measures ≡ measures_of values plane connect → items ≡ all_cells plane values connect picked
@@ -144,7 +144,7 @@ unfolding tree_of
 number_read r connect tree p is within = ap (λ (t : ComponentTree). slice_index t.node_of p) is ∙ read-node_of r connect p within
 
 -- a node's pixel has a number, which is that of a row
-pub number_there : (tree : ComponentTree) (numbers : List ℕ) (nodes : List PickedNode) (k : ℕ) (d : PickedNode) → StandIn tree nodes
+pub number_there : (tree : ComponentTree) (numbers : List ℕ) (nodes : List PickedSource) (k : ℕ) (d : PickedSource) → StandIn tree nodes
     → numbers ≡ tree.node_of → k < length nodes
     → ((get_or nodes k d).rep < length numbers) × (slice_index numbers (get_or nodes k d).rep < length tree.rows)
 number_there tree numbers nodes k d there same within =
@@ -152,7 +152,7 @@ number_there tree numbers nodes k d there same within =
     (there k (get_or nodes k d) (slice_get-get_or nodes k d within))
 
 -- the number that is read for it is that of its node
-pub node_read : (plane values : Raster) (connect : Connect) (tree : ComponentTree) (numbers : List ℕ) (node : PickedNode) (row : List ℤ)
+pub node_read : (plane values : Raster) (connect : Connect) (tree : ComponentTree) (numbers : List ℕ) (node : PickedSource) (row : List ℤ)
     → tree ≡ tree_of plane connect → numbers ≡ tree.node_of
     → node.rep < length tree.node_of
     → row ≡ measured_cells_of node.row (measure_of values plane connect (get_or numbers node.rep 0)) (back_of values plane connect (get_or numbers node.rep 0))

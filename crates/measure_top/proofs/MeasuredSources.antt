@@ -12,7 +12,7 @@ use Rattle.source_pick.specs.Sources.{sources}
 use Rattle.dual_measure.specs.Measures.{IsPlanesTree}
 use Rattle.orders.specs.declared.words.Order.{Order}
 use Rattle.measure_top.specs.declared.measuring.Measured.{Measured}
-use Rattle.measure_top.specs.declared.picking_near.PickedNode.{PickedNode}
+use Rattle.source_sheet.specs.declared.tops.PickedSource.{PickedSource}
 use Rattle.measure_top.specs.MeasuredCatalogues.{measured_hdus, rows_with_measures, measured_sources, measured_output}
 use Rattle.fits_write.specs.CatalogueColumns.{measured_columns}
 use Rattle.measure_top.specs.MeasuredDetections.{IsMeasuredDetection}
@@ -21,7 +21,7 @@ use Rattle.measure_top.specs.Picks.{AreSourcesOf, CanBeListed, HaveBasesFrom, al
 use Rattle.measure_top.proofs.InCut.{sources_measured, plane-cut, same_shape-cut}
 
 -- a map with a number for each pixel, and a table, can be written
-pub can_be_put : (plane : Raster) (shape : Shape) (numbers : List ℕ) (found : List PickedNode) (cells : List ℤ) → shape ≡ plane.shape
+pub can_be_put : (plane : Raster) (shape : Shape) (numbers : List ℕ) (found : List PickedSource) (cells : List ℤ) → shape ≡ plane.shape
     → CanBeListed plane.shape numbers found
     → IsTable measured_columns cells → IsMeasuredDetection shape numbers cells
 can_be_put plane shape numbers found cells same listed table = record {
@@ -33,7 +33,7 @@ can_be_put plane shape numbers found cells same listed table = record {
 -- ---- what they hold
 
 -- the map over the sources and their rows are what is written of them
-pub are_sources : (plane left values : Raster) (connect : Connect) (choice : Choice) (shape : Shape) (h : ℤ) (numbers : List ℕ) (found : List PickedNode)
+pub are_sources : (plane left values : Raster) (connect : Connect) (choice : Choice) (shape : Shape) (h : ℤ) (numbers : List ℕ) (found : List PickedSource)
     (cells : List ℤ) → IsPlane plane
     → shape ≡ plane.shape → AreSourcesOf plane connect choice numbers found → left ≡ cut plane h → HaveBasesFrom h found
     → cells ≡ all_cells left values connect found

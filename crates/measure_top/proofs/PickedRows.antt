@@ -1,7 +1,7 @@
 -- The nodes that were picked, put one behind the other.
-use Rattle.std.proofs.Common.{◌≡◌, ◌∙◌, ap, sym, subst, refl, arith, ℕ, zero, suc, ◌+◌, ◌<◌, ◌≤◌, List, [], ◌∷◌, ◌++◌, length, map, take, get_or}
+use Rattle.std.proofs.Common.{◌≡◌, ◌∙◌, ap, sym, subst, refl, arith, ℕ, ◌+◌, ◌<◌, ◌≤◌, List, [], ◌∷◌, ◌++◌, length, map, take, get_or}
 use Rattle.std.proofs.Common.{length-append, ℤ}
-use Rattle.std.specs.Prelude.{Some, slice_get, ◌≤ℤ◌}
+use Rattle.std.specs.Prelude.{◌≤ℤ◌}
 use Rattle.std.proofs.lemmas.Int.{ints}
 use Rattle.std.proofs.lemmas.List.{take_more, take_all, map-append, get_or-map}
 use Rattle.comp_tree.specs.declared.shape.Connect.{Connect}
@@ -16,23 +16,14 @@ use Rattle.node_sums.specs.Sums.{sums_of}
 use Rattle.node_sums.proofs.Exported.{rows_are}
 use Rattle.source_pick.specs.Catalogue.{catalogue_row, catalogue_of, FitsColumns}
 use Rattle.tree_products.proofs.Exported.{row_more, rows_all}
-use Rattle.measure_top.specs.declared.picking_near.PickedNode.{PickedNode}
+use Rattle.source_sheet.proofs.Exported.{each_more, no_item}
+use Rattle.source_sheet.specs.declared.tops.PickedSource.{PickedSource}
 use Rattle.measure_top.specs.Picks.{AreNodesOf, HaveFittingRows, HaveBasesFrom}
-
--- ---- lists that grow at their end
-
--- what holds of each item so far and of the next holds of all of them
-each_more : {X : Type 0} (P : X → Type 0) (xs : List X) (x : X) → ((k : ℕ) (y : X) → slice_get xs k ≡ Some y → P y) → P x → (k : ℕ) (y : X)
-    → slice_get (xs ++ x ∷ []) k ≡ Some y → P y
-each_more P [] x before now zero y at = let same : x ≡ y = cc in subst P same now
-each_more P [] x before now (suc k) y at = absurd (cc)
-each_more P (z ∷ xs) x before now zero y at = before zero y at
-each_more P (z ∷ xs) x before now (suc k) y at = each_more P xs x (λ j w. before (suc j) w) now k y at
 
 -- ---- the nodes
 
 -- these are the first count of some nodes, with their numbers from 1
-pub record AreFirstNodes (tree : ComponentTree) (sums : List Sums) (picked : List ℕ) (count : ℕ) (nodes : List PickedNode) : Type 0 where
+pub record AreFirstNodes (tree : ComponentTree) (sums : List Sums) (picked : List ℕ) (count : ℕ) (nodes : List PickedSource) : Type 0 where
   pub many : length nodes ≡ count
   pub fits : HaveFittingRows nodes
   pub rows : (plane : Raster) (connect : Connect) → tree ≡ tree_of plane connect → sums ≡ map (sums_of plane connect) picked
@@ -40,19 +31,15 @@ pub record AreFirstNodes (tree : ComponentTree) (sums : List Sums) (picked : Lis
   pub representatives : (plane : Raster) (connect : Connect) → tree ≡ tree_of plane connect
       → map (λ n. n.rep) nodes ≡ map (top_of plane connect) (take count picked)
 
-no_item : {X : Type 0} (P : X → Type 0) (xs : List X) → xs ≡ [] → (k : ℕ) (y : X) → slice_get xs k ≡ Some y → P y
-no_item P [] empty k y at = absurd (cc)
-no_item P (x ∷ xs) empty k y at = absurd (cc)
-
-pub no_nodes : (tree : ComponentTree) (sums : List Sums) (picked : List ℕ) (nodes : List PickedNode) → nodes ≡ [] → AreFirstNodes tree sums picked 0 nodes
+pub no_nodes : (tree : ComponentTree) (sums : List Sums) (picked : List ℕ) (nodes : List PickedSource) → nodes ≡ [] → AreFirstNodes tree sums picked 0 nodes
 no_nodes tree sums picked nodes empty = record {
-  many = ap (λ (l : List PickedNode). length l) empty;
-  fits = no_item (λ (n : PickedNode). FitsColumns n.row) nodes empty;
-  rows = λ plane connect is are. ap (map (λ (n : PickedNode). n.row)) empty;
-  representatives = λ plane connect is. ap (map (λ (n : PickedNode). n.rep)) empty;
+  many = ap (λ (l : List PickedSource). length l) empty;
+  fits = no_item (λ (n : PickedSource). FitsColumns n.row) nodes empty;
+  rows = λ plane connect is are. ap (map (λ (n : PickedSource). n.row)) empty;
+  representatives = λ plane connect is. ap (map (λ (n : PickedSource). n.rep)) empty;
 }
 
-pub node_more : (tree : ComponentTree) (sums : List Sums) (picked : List ℕ) (count : ℕ) (nodes nodes' : List PickedNode) (node : PickedNode)
+pub node_more : (tree : ComponentTree) (sums : List Sums) (picked : List ℕ) (count : ℕ) (nodes nodes' : List PickedSource) (node : PickedSource)
     → AreFirstNodes tree sums picked count nodes
     → count < length picked → nodes' ≡ nodes ++ node ∷ [] → FitsColumns node.row
     → ((plane : Raster) (connect : Connect) → tree ≡ tree_of plane connect → sums ≡ map (sums_of plane connect) picked → node.row
@@ -60,21 +47,21 @@ pub node_more : (tree : ComponentTree) (sums : List Sums) (picked : List ℕ) (c
     → ((plane : Raster) (connect : Connect) → tree ≡ tree_of plane connect → node.rep ≡ top_of plane connect (get_or picked count 0))
     → AreFirstNodes tree sums picked (count + 1) nodes'
 node_more tree sums picked count nodes nodes' node before within more fits row rep = record {
-  many = ap (λ (l : List PickedNode). length l) more ∙ length-append nodes (node ∷ []) ∙ ap (λ n. n + 1) before.many;
-  fits = subst HaveFittingRows (sym more) (each_more (λ (n : PickedNode). FitsColumns n.row) nodes node before.fits fits);
+  many = ap (λ (l : List PickedSource). length l) more ∙ length-append nodes (node ∷ []) ∙ ap (λ n. n + 1) before.many;
+  fits = subst HaveFittingRows (sym more) (each_more (λ (n : PickedSource). FitsColumns n.row) nodes node before.fits fits);
   rows = λ plane connect is are.
-      ap (map (λ (n : PickedNode). n.row)) more ∙ map-append (λ (n : PickedNode). n.row) nodes (node ∷ [])
+      ap (map (λ (n : PickedSource). n.row)) more ∙ map-append (λ (n : PickedSource). n.row) nodes (node ∷ [])
       ∙ row_more plane connect picked count (map (λ n. n.row) nodes) node.row (before.rows plane connect is are) within (row plane connect is are);
   representatives = λ plane connect is.
-      ap (map (λ (n : PickedNode). n.rep)) more
-      ∙ map-append (λ (n : PickedNode). n.rep) nodes (node ∷ [])
+      ap (map (λ (n : PickedSource). n.rep)) more
+      ∙ map-append (λ (n : PickedSource). n.rep) nodes (node ∷ [])
       ∙ ap (λ (l : List ℕ). l ++ node.rep ∷ []) (before.representatives plane connect is)
       ∙ ap (λ (x : ℕ). map (top_of plane connect) (take count picked) ++ x ∷ []) (rep plane connect is)
       ∙ sym (ap (map (top_of plane connect)) (take_more picked count 0 within) ∙ map-append (top_of plane connect) (take count picked)
       (get_or picked count 0 ∷ []));
 }
 
-pub all_nodes : (tree : ComponentTree) (sums : List Sums) (picked : List ℕ) (count : ℕ) (nodes : List PickedNode) → AreFirstNodes tree sums picked count nodes
+pub all_nodes : (tree : ComponentTree) (sums : List Sums) (picked : List ℕ) (count : ℕ) (nodes : List PickedSource) → AreFirstNodes tree sums picked count nodes
     → length picked ≤ count
     → (plane : Raster) (connect : Connect) → tree ≡ tree_of plane connect → sums ≡ map (sums_of plane connect) picked → AreNodesOf plane connect picked nodes
 all_nodes tree sums picked count nodes are whole plane connect is sums_are = record {
@@ -84,17 +71,17 @@ all_nodes tree sums picked count nodes are whole plane connect is sums_are = rec
 
 -- ---- the least of their bases
 
-pub no_bases : (h : ℤ) (nodes : List PickedNode) → HaveBasesFrom h (take 0 nodes)
-no_bases h nodes k node at = no_item (λ (n : PickedNode). h ≤ℤ n.row.base) (take 0 nodes) refl k node at
+pub no_bases : (h : ℤ) (nodes : List PickedSource) → HaveBasesFrom h (take 0 nodes)
+no_bases h nodes k node at = no_item (λ (n : PickedSource). h ≤ℤ n.row.base) (take 0 nodes) refl k node at
 
-pub base_more : (h h' : ℤ) (nodes : List PickedNode) (count : ℕ) (d : PickedNode) → HaveBasesFrom h (take count nodes) → count < length nodes → h' ≤ℤ h
+pub base_more : (h h' : ℤ) (nodes : List PickedSource) (count : ℕ) (d : PickedSource) → HaveBasesFrom h (take count nodes) → count < length nodes → h' ≤ℤ h
     → h' ≤ℤ (get_or nodes count d).row.base → HaveBasesFrom h' (take (count + 1) nodes)
 base_more h h' nodes count d before within less now =
     subst (HaveBasesFrom h') (sym (take_more nodes count d within))
-    (each_more (λ (n : PickedNode). h' ≤ℤ n.row.base) (take count nodes) (get_or nodes count d)
+    (each_more (λ (n : PickedSource). h' ≤ℤ n.row.base) (take count nodes) (get_or nodes count d)
     (λ k node at. let b : h ≤ℤ node.row.base = before k node at in omega (arith, ints)) now)
 
-pub all_bases : (h : ℤ) (nodes : List PickedNode) (count : ℕ) → HaveBasesFrom h (take count nodes) → length nodes ≤ count → HaveBasesFrom h nodes
+pub all_bases : (h : ℤ) (nodes : List PickedSource) (count : ℕ) → HaveBasesFrom h (take count nodes) → length nodes ≤ count → HaveBasesFrom h nodes
 all_bases h nodes count before whole = subst (HaveBasesFrom h) (take_all count nodes whole) before
 
 -- ---- one node

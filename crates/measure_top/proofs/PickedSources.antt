@@ -12,10 +12,10 @@ use Rattle.source_pick.specs.Segmentation.{segmentation_of, segmentation}
 use Rattle.source_pick.specs.Catalogue.{catalogue}
 use Rattle.source_pick.specs.Locality.{HaveSameSources}
 use Rattle.source_pick.proofs.Exported.{numbers-length}
-use Rattle.measure_top.specs.declared.picking_near.PickedNode.{PickedNode}
+use Rattle.source_sheet.specs.declared.tops.PickedSource.{PickedSource}
 use Rattle.measure_top.specs.Picks.{AreNodesOf, AreSourcesOf, HaveFittingRows, CanBeListed}
 
-pub are_sources_of : (plane : Raster) (connect : Connect) (choice : Choice) (picked marked listed : List ℕ) (numbers : List ℕ) (found : List PickedNode)
+pub are_sources_of : (plane : Raster) (connect : Connect) (choice : Choice) (picked marked listed : List ℕ) (numbers : List ℕ) (found : List PickedSource)
     → picked ≡ sources plane connect choice → marked ≡ picked → numbers ≡ segmentation_of plane connect marked → listed ≡ picked
     → AreNodesOf plane connect listed found
     → AreSourcesOf plane connect choice numbers found
@@ -25,7 +25,7 @@ are_sources_of plane connect choice picked marked listed numbers found are same_
   nodes_are = subst (λ (l : List ℕ). AreNodesOf plane connect l found) (same_listed ∙ are) are_nodes;
 }
 
-pub can_be_listed : (plane : Raster) (tree : ComponentTree) (numbers : List ℕ) (found : List PickedNode) → IsTreeOfPlane plane tree → IsPlane plane
+pub can_be_listed : (plane : Raster) (tree : ComponentTree) (numbers : List ℕ) (found : List PickedSource) → IsTreeOfPlane plane tree → IsPlane plane
     → length numbers ≡ length tree.node_of → ((p : ℕ) → slice_index numbers p ≤ 2147483647) → length found ≤ 2147483647 → HaveFittingRows found
     → CanBeListed plane.shape numbers found
 can_be_listed plane tree numbers found of_plane whole one_each small few fits = record {
@@ -36,7 +36,7 @@ can_be_listed plane tree numbers found of_plane whole one_each small few fits = 
 }
 
 -- the sources of a plane that has the same are those of the plane
-pub same_sources : (r s : Raster) (connect : Connect) (choice : Choice) (numbers : List ℕ) (found : List PickedNode) → HaveSameSources r s connect choice
+pub same_sources : (r s : Raster) (connect : Connect) (choice : Choice) (numbers : List ℕ) (found : List PickedSource) → HaveSameSources r s connect choice
     → AreSourcesOf s connect choice numbers found → AreSourcesOf r connect choice numbers found
 unfolding catalogue
 same_sources r s connect choice numbers found same are = record {

@@ -13,7 +13,7 @@ use Rattle.source_pick.specs.Segmentation.{segmentation}
 use Rattle.source_pick.specs.Catalogue.{FitsColumns, catalogue_of}
 use Rattle.dual_measure.specs.Measures.{measure_of, back_of}
 use Rattle.dual_measure.specs.Columns.{measured_cells_of}
-use Rattle.measure_top.specs.declared.picking_near.PickedNode.{PickedNode}
+use Rattle.source_sheet.specs.declared.tops.PickedSource.{PickedSource}
 
 -- ---- planes
 
@@ -27,43 +27,43 @@ pub record IsCutUpTo (r : Raster) (h : ℤ) (count : ℕ) (plane : Raster) : Typ
 -- ---- the nodes that were picked
 
 -- these are the rows of some nodes, and the pixels that represent them
-pub record AreNodesOf (r : Raster) (connect : Connect) (picked : List ℕ) (nodes : List PickedNode) : Type 0 where
+pub record AreNodesOf (r : Raster) (connect : Connect) (picked : List ℕ) (nodes : List PickedSource) : Type 0 where
   pub rows : map (λ n. n.row) nodes ≡ catalogue_of r connect picked
   pub representatives : map (λ n. n.rep) nodes ≡ map (top_of r connect) picked
 
 -- the map over the sources, their rows, and the pixels that represent them
-pub record AreSourcesOf (r : Raster) (connect : Connect) (choice : Choice) (numbers : List ℕ) (nodes : List PickedNode) : Type 0 where
+pub record AreSourcesOf (r : Raster) (connect : Connect) (choice : Choice) (numbers : List ℕ) (nodes : List PickedSource) : Type 0 where
   pub numbers_are : numbers ≡ segmentation r connect choice
   pub nodes_are : AreNodesOf r connect (sources r connect choice) nodes
 
 -- each row fits the columns
-abbrev pub HaveFittingRows : List PickedNode → Type 0
-HaveFittingRows nodes = (k : ℕ) (node : PickedNode) → slice_get nodes k ≡ Some node → FitsColumns node.row
+abbrev pub HaveFittingRows : List PickedSource → Type 0
+HaveFittingRows nodes = (k : ℕ) (node : PickedSource) → slice_get nodes k ≡ Some node → FitsColumns node.row
 
 -- so a map with a number for each pixel, and the cells of the nodes, can be written
-pub record CanBeListed (shape : Shape) (numbers : List ℕ) (nodes : List PickedNode) : Type 0 where
+pub record CanBeListed (shape : Shape) (numbers : List ℕ) (nodes : List PickedSource) : Type 0 where
   pub one_each : length numbers ≡ shape.width * shape.height
   pub small : All (λ n. n ≤ 2147483647) numbers
   pub few : length nodes ≤ 2147483647
   pub fits : HaveFittingRows nodes
 
 -- each has at least this base
-abbrev pub HaveBasesFrom : ℤ → List PickedNode → Type 0
-HaveBasesFrom h nodes = (k : ℕ) (node : PickedNode) → slice_get nodes k ≡ Some node → h ≤ℤ node.row.base
+abbrev pub HaveBasesFrom : ℤ → List PickedSource → Type 0
+HaveBasesFrom h nodes = (k : ℕ) (node : PickedSource) → slice_get nodes k ≡ Some node → h ≤ℤ node.row.base
 
 -- the pixels that represent them belong to nodes of a tree
-abbrev pub StandIn : ComponentTree → List PickedNode → Type 0
-StandIn tree nodes = (k : ℕ) (node : PickedNode) → slice_get nodes k ≡ Some node
+abbrev pub StandIn : ComponentTree → List PickedSource → Type 0
+StandIn tree nodes = (k : ℕ) (node : PickedSource) → slice_get nodes k ≡ Some node
     → (node.rep < length tree.node_of) × (slice_index tree.node_of node.rep < length tree.rows)
 
 -- ---- their cells
 
 -- the row of a node, and its measure and its back in a plane where a pixel represents it
-unfoldable pub cells_at : (plane values : Raster) → Connect → PickedNode → List ℤ
+unfoldable pub cells_at : (plane values : Raster) → Connect → PickedSource → List ℤ
 cells_at plane values connect node =
     measured_cells_of node.row (measure_of values plane connect (node_of plane connect node.rep))
     (back_of values plane connect (node_of plane connect node.rep))
 
 -- of all of them, one behind the other
-unfoldable pub all_cells : (plane values : Raster) → Connect → List PickedNode → List ℤ
+unfoldable pub all_cells : (plane values : Raster) → Connect → List PickedSource → List ℤ
 all_cells plane values connect nodes = flat_map (cells_at plane values connect) nodes

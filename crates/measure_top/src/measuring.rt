@@ -18,7 +18,7 @@ ghost use Rattle.measure_top.specs.MeasuredDetections.{IsMeasuredDetection};
 ghost use Rattle.measure_top.specs.Picks.{HaveFittingRows, StandIn, all_cells};
 
 use crate::cutting::cut_below;
-use crate::picking_near::{PickedNode, lowest_base, pick_near};
+use crate::picking_near::{lowest_base, pick_sources};
 use comp_tree::{Plane, Shape, Tree};
 use costs::OutOfMemory;
 use dev_io::Sink;
@@ -29,6 +29,7 @@ use fits_write::{
 use mesh_background::residual;
 use orders::Order;
 use source_pick::{CatRow, Choice};
+use source_sheet::PickedSource;
 use std::alloc::Global;
 use std::thread::Threads;
 use strip_crew::{Gate, component_tree};
@@ -78,7 +79,7 @@ fn table_cells(
     alloc: Global,
     tree: &Tree,
     measures: &[Measure],
-    nodes: &[PickedNode],
+    nodes: &[PickedSource],
 ) -> Result<Vec<i64>, OutOfMemory>
     requires measures { AreTheTreesMeasures tree.now measures.now }
     requires small { (m : ℕ) (entry : Entry) → slice_get measures.now m ≡ Some entry →
@@ -109,7 +110,7 @@ fn cells_in_tree(
     alloc: Global,
     tree: &Tree,
     values: &Plane,
-    nodes: &[PickedNode],
+    nodes: &[PickedSource],
 ) -> Result<Vec<i64>, OutOfMemory>
     requires shape { values.now.shape ≡ tree.now.shape }
     requires tree { IsPlanesTree tree.now }
@@ -171,7 +172,7 @@ fn measure_residuals<R: Threads + Sync, G: Gate>(
         measured_sources plane values.now order.connect choice.now) }
 {
     let shape = plane.shape();
-    let picked = pick_near(rt, alloc, &plane, order, choice, gate)?;
+    let picked = pick_sources(rt, alloc, &plane, order, choice, gate)?;
     let level = lowest_base(&picked.nodes, choice.threshold);
     let tree = tree_above(rt, alloc, plane, level, order, gate)?;
     let cells = cells_in_tree(alloc, &tree, values, &picked.nodes)?;

@@ -5,7 +5,7 @@ use Rattle.std.proofs.lemmas.Nat.{div-add-mod', div-mul-add, mod-mul-add, mod_be
 use Rattle.std.proofs.lemmas.Int.{ints}
 use Rattle.std.specs.Prelude.{IsTrue, ℤ, pos, ◌+ℤ◌, ◌-ℤ◌, List, map, Contains, Option, Some, slice_get, ◌↔◌, nat_le, nat_lt, unwrap_or}
 use Rattle.std.specs.List.{position_from}
-use Rattle.lemmas.proofs.Exported.{ArePaired, HasPartnerIn, IsAmong, among_get, among_of, paired_enumerated, paired_from_rising, paired_position, same_bool}
+use Rattle.lemmas.proofs.Exported.{ArePaired, HasPartnerIn, IsAmong, among_get, among_of, paired_enumerated, paired_from_rising, paired_map, paired_position, same_bool}
 use Rattle.comp_tree.specs.declared.shape.Connect.{Connect}
 use Rattle.comp_tree.specs.declared.shape.Shape.{Shape}
 use Rattle.comp_tree.specs.Raster.{Raster, IsPlane, pixels}
@@ -20,7 +20,7 @@ use Rattle.source_pick.specs.Sources.{is_source, sources}
 use Rattle.source_pick.specs.Catalogue.{catalogue_row, moved_row}
 use Rattle.source_pick.specs.Sheets.{Part, IsPartOf, IsHeld, IsMovedSource, HeldPixelsHoldSources, SourcesStandInTheSheet, SourcesComeFromThePlane}
 use Rattle.node_sums.specs.DisjointNodes.{listed_number_at}
-use Rattle.source_pick.specs.Sheets.{taken_back, row_back, sheet_rows, SheetGivesTheCatalogue, IsSheetOf, AreTakenBack}
+use Rattle.source_pick.specs.Sheets.{taken_back, row_back, sheet_rows, sheet_tops, SheetGivesTheCatalogue, SheetGivesTheTops, IsSheetOf, AreTakenBack}
 use Rattle.source_pick.specs.Sheets.{put_on, from_box, has_on_sheet, sheet_number, SheetGivesTheMap}
 use Rattle.source_pick.proofs.LocalityHighNodes.{top_high}
 use Rattle.source_pick.proofs.Locality.{catalogue-is, number-is, segmentation-is}
@@ -37,6 +37,7 @@ both r s connect choice t n k j a b = record {
   source_there = b.source;
   held = record { it = top_of t.plane connect j; is_own = a.is_own; place = a.place };
   held_there = record { it = top_of t.plane connect j; is_own = b.is_own; place = b.place };
+  same_top = refl;
   all_held = a.all_held;
   it = j;
   from = a.moved;
@@ -97,31 +98,39 @@ row_is : (r s : Raster) (connect : Connect) (choice : Choice) (t : Part) (n k i 
 row_is r s connect choice t n k i g =
     g.from.row i ∙ moved_back t (catalogue_row t.plane connect i g.it) ∙ ap (row_back t) (sym (g.to.row i))
 
--- and its least pixel
-first_is : (r s : Raster) (connect : Connect) (choice : Choice) (t : Part) (n k : ℕ) → IsPartOf r s connect choice.threshold t
-    → IsMovedSource r s connect choice t n k
-    → (sums_of r connect n).first ≡ taken_back r.shape.width s.shape.width t (sums_of s connect k).first
+-- a pixel of the part stands in the plane where its place on the sheet is taken back to
+back_is : (r s : Raster) (connect : Connect) (h : ℤ) (t : Part) (o p q : ℕ) → IsPartOf r s connect h t → in_whole r.shape.width t.from q ≡ o
+    → in_whole s.shape.width t.to q ≡ p → o ≡ taken_back r.shape.width s.shape.width t p
 unfolding taken_back in_whole
-first_is r s connect choice t n k part g =
-    g.from.first
+back_is r s connect h t o p q part there here =
+    sym there
     ∙ ap (λ (x : Shape). (q / x.width + t.from.top) * r.shape.width + (q % x.width + t.from.left)) (sym part.in_plane.shape_is ∙ part.in_sheet.shape_is)
     ∙ ap (λ (x : ℕ). x * r.shape.width + (q % t.to.shape.width + t.from.left)) rows
     ∙ ap (λ (x : ℕ). (p / s.shape.width + t.from.top - t.to.top) * r.shape.width + x) columns
   where
-    q : ℕ
-    q = (sums_of t.plane connect g.it).first
-
-    p : ℕ
-    p = (sums_of s connect k).first
-
     at : IsAt s.shape.width t.to.shape.width t.to.left t.to.top p q
-    at = subst (λ (x : ℕ). IsAt s.shape.width t.to.shape.width t.to.left t.to.top x q) (sym g.to.first) (in_whole-at s.shape t.to q part.in_sheet.inside)
+    at = subst (λ (x : ℕ). IsAt s.shape.width t.to.shape.width t.to.left t.to.top x q) here (in_whole-at s.shape t.to q part.in_sheet.inside)
 
     rows : q / t.to.shape.width + t.from.top ≡ p / s.shape.width + t.from.top - t.to.top
     rows = let e : p / s.shape.width ≡ q / t.to.shape.width + t.to.top = at.row in omega (arith, e)
 
     columns : q % t.to.shape.width + t.from.left ≡ p % s.shape.width + t.from.left - t.to.left
     columns = let e : p % s.shape.width ≡ q % t.to.shape.width + t.to.left = at.column in omega (arith, e)
+
+-- and its least pixel
+first_is : (r s : Raster) (connect : Connect) (choice : Choice) (t : Part) (n k : ℕ) → IsPartOf r s connect choice.threshold t
+    → IsMovedSource r s connect choice t n k
+    → (sums_of r connect n).first ≡ taken_back r.shape.width s.shape.width t (sums_of s connect k).first
+first_is r s connect choice t n k part g =
+    back_is r s connect choice.threshold t (sums_of r connect n).first (sums_of s connect k).first (sums_of t.plane connect g.it).first part
+    (sym g.from.first) (sym g.to.first)
+
+-- and the pixel that represents it
+top_is : (r s : Raster) (connect : Connect) (choice : Choice) (t : Part) (n k : ℕ) → IsPartOf r s connect choice.threshold t
+    → IsMovedSource r s connect choice t n k → top_of r connect n ≡ taken_back r.shape.width s.shape.width t (top_of s connect k)
+top_is r s connect choice t n k part g =
+    back_is r s connect choice.threshold t (top_of r connect n) (top_of s connect k) g.held_there.it part
+    (ap (in_whole r.shape.width t.from) (sym g.same_top) ∙ g.held.place) g.held_there.place
 
 -- a source of the plane, and the one of the sheet that it is
 record IsSheets (r s : Raster) (connect : Connect) (choice : Choice) (n : ℕ) (e : Part × ℕ) : Type 0 where
@@ -176,6 +185,12 @@ unfolding sheet_rows
 sheet_gives_the_catalogue r s connect choice parts found plane_r plane_s sheet k = catalogue-is r connect choice
     ∙ paired_enumerated (IsSheets r s connect choice) (catalogue_row r connect) (λ i e. row_back e.0 (catalogue_row s connect i e.1)) 1
     (sources r connect choice) found (λ i n e c. row_is r s connect choice e.0 n e.1 i c.moved) (pairs r s connect choice parts found plane_r plane_s sheet k)
+
+pub sheet_gives_the_tops : SheetGivesTheTops
+unfolding sheet_tops
+sheet_gives_the_tops r s connect choice parts found plane_r plane_s sheet k =
+    paired_map (IsSheets r s connect choice) (top_of r connect) (λ e. taken_back r.shape.width s.shape.width e.0 (top_of s connect e.1))
+    (sources r connect choice) found (λ n e c. top_is r s connect choice e.0 n e.1 c.part c.moved) (pairs r s connect choice parts found plane_r plane_s sheet k)
 
 -- ---- the map
 

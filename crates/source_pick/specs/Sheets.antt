@@ -13,7 +13,7 @@ use Rattle.comp_tree.specs.Windows.{Window, IsInside, in_whole, seen_through, Is
 use Rattle.node_sums.specs.Sums.{sums_of}
 use Rattle.source_pick.specs.declared.choice.Choice.{Choice}
 use Rattle.source_pick.specs.declared.catalogue.CatRow.{CatRow}
-use Rattle.source_pick.specs.Sources.{is_source}
+use Rattle.source_pick.specs.Sources.{is_source, sources}
 use Rattle.source_pick.specs.Catalogue.{catalogue_row, catalogue}
 use Rattle.source_pick.specs.Segmentation.{segmentation}
 use Rattle.source_pick.specs.Windows.{IsMovedNode}
@@ -72,6 +72,8 @@ pub record IsMovedSource (r s : Raster) (connect : Connect) (choice : Choice) (t
   pub source_there : IsTrue (is_source s connect choice k)
   pub held : IsHeld r t.from t.own (top_of r connect n)
   pub held_there : IsHeld s t.to t.own (top_of s connect k)
+  -- one pixel of the part represents both
+  pub same_top : held.it ≡ held_there.it
   -- the part has all its pixels
   pub all_held : (p : ℕ) → is_in_node r connect n p ≡ true → IsHeld r t.from t.own p
   pub it : ℕ
@@ -136,6 +138,16 @@ abbrev pub SheetGivesTheCatalogue : Type 0
 SheetGivesTheCatalogue = (r s : Raster) (connect : Connect) (choice : Choice) (parts : List Part) (found : List (Part × ℕ)) → IsPlane r → IsPlane s
     → IsSheetOf r s connect choice parts → AreTakenBack r s connect choice parts found
     → catalogue r connect choice ≡ sheet_rows s connect found
+
+-- the pixels that represent these sources, in the plane
+unfoldable pub sheet_tops : Raster → Raster → Connect → List (Part × ℕ) → List ℕ
+sheet_tops r s connect found = map (λ e. taken_back r.shape.width s.shape.width e.0 (top_of s connect e.1)) found
+
+-- are those that represent the sources of the plane
+abbrev pub SheetGivesTheTops : Type 0
+SheetGivesTheTops = (r s : Raster) (connect : Connect) (choice : Choice) (parts : List Part) (found : List (Part × ℕ)) → IsPlane r → IsPlane s
+    → IsSheetOf r s connect choice parts → AreTakenBack r s connect choice parts found
+    → map (top_of r connect) (sources r connect choice) ≡ sheet_tops r s connect found
 
 -- ---- the map
 

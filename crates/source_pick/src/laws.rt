@@ -23,6 +23,7 @@ ghost use Rattle.source_pick.specs.Sheets.{
   SourcesComeFromThePlane,
   SheetGivesTheCatalogue,
   SheetGivesTheMap,
+  SheetGivesTheTops,
 };
 ghost use Rattle.source_pick.specs.Locality.{SourcesAreLocal, KeptIsAPlane, KeptHasTheSameSources};
 
@@ -74,7 +75,8 @@ pub fn sources_of_tiles()
 
 /// Where the pixels of at least the threshold lie in parts that stand in a sheet as they do in the plane, with all that is
 /// beside them, the sources of the plane are those of the sheet, and its catalogue is the sheet's: the rows are taken back
-/// to the places of the plane, in the order of the least pixels there, and numbered.
+/// to the places of the plane, in the order of the least pixels there, and numbered. The pixels that represent the sources are
+/// taken back the same way.
 pub fn sources_of_sheets()
     ensures parts { CopiesAreParts }
     ensures held { HeldPixelsHoldSources }
@@ -82,5 +84,6 @@ pub fn sources_of_sheets()
     ensures stand { SourcesStandInTheSheet }
     ensures come { SourcesComeFromThePlane }
     ensures catalogue { SheetGivesTheCatalogue }
+    ensures tops { SheetGivesTheTops }
     ensures map { SheetGivesTheMap }
 {}

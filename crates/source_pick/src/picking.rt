@@ -89,7 +89,8 @@ pub fn pick_by_outlines(
     let nodes = flagged_nodes(alloc, tree, &flags)?;
     let sums = sums_of_nodes(alloc, plane, tree, &nodes)?;
     let mut placed = placed_sources(alloc, &nodes, &sums)?;
-    placed.sort_unstable_by_key(|source| source.sums.first);
+    // a source is large, so the keys are sorted and the sources moved once
+    placed.sort_by_cached_key(|source| source.sums.first)?;
     picked_of(alloc, &placed)
 }
 

@@ -1,11 +1,11 @@
 -- What is found about the pixels of a place, one after the other, and around each.
-use Rattle.std.proofs.Common.{◌≡◌, ℕ, ◌+◌, ◌-◌, ◌*◌, ◌/◌, ◌%◌, ◌<◌, ◌≤◌, false, List, length, get_or, refl, sym, ◌∙◌, ap, subst, arith, ◌⊎◌, inl, inr}
+use Rattle.std.proofs.Common.{◌≡◌, ℕ, ◌+◌, ◌-◌, ◌*◌, ◌/◌, ◌%◌, ◌<◌, ◌≤◌, List, length, get_or, refl, sym, ◌∙◌, ap, subst, arith, ◌⊎◌, inl, inr}
 use Rattle.std.specs.Prelude.{IsTrue, ℤ, All, filter, nat_lt, slice_get, Some}
 use Rattle.std.specs.List.{range_with_len}
-use Rattle.std.proofs.lemmas.Bool.{and_parts, ltb-true, cases_lt, true≢false}
+use Rattle.std.proofs.lemmas.Bool.{and_parts, ltb-true, cases_lt}
 use Rattle.std.proofs.lemmas.Nat.{div-add-mod', div-mul-add, mod-mul-add, mul-add-lt}
 use Rattle.std.proofs.lemmas.Grind.{get_or_default_zero}
-use Rattle.std.proofs.lemmas.Option.{get_or_from_slice_get, slice_get_within, same_Some}
+use Rattle.std.proofs.lemmas.Option.{get_or_from_slice_get, slice_get_within}
 use Rattle.lemmas.proofs.Exported.{IsAmong, all_from_among, among-filter, among-range, among_from_filter, among_from_range, among_get}
 use Rattle.comp_tree.specs.declared.shape.Connect.{Connect}
 use Rattle.comp_tree.specs.declared.shape.Shape.{Shape}
@@ -18,7 +18,7 @@ use Rattle.source_sheet.specs.declared.sheet.Place.{Place}
 use Rattle.source_sheet.specs.Laid.{windows_of}
 use Rattle.source_sheet.proofs.Apart.{row_inside}
 use Rattle.source_sheet.proofs.Around.{linked_near}
-use Rattle.source_sheet.specs.Checks.{LiesInside, IsInWindow, StaysWithin, IsPixelCopied, ArePixelsCopied, AreLowThere, AreWithin, AreAllCopied}
+use Rattle.source_sheet.specs.Checks.{LiesInside, IsInWindow, StaysWithin, IsPixelCopied, ArePixelsCopied, AreLowThere, AreWithin}
 
 -- ---- lists of neighbours
 
@@ -272,15 +272,3 @@ copied_from r s connect h c inside inside_sheet copied = record {
         ltb-true q (window_size (windows_of c).to)
         (and_parts (nat_lt q (window_size (windows_of c).to)) (is_at_least s h (in_whole s.shape.width (windows_of c).to q)) k).0 in
         copied.each q (omega arith) (omega arith) k
-
--- ---- place by place
-
-pub all_copied_more : (r s : Raster) (connect : Connect) (h : ℤ) (places : List Place) (count : ℕ) (c : Place) → slice_get places count ≡ Some c
-    → IsCopied r s connect h (windows_of c) → AreAllCopied r s connect h places count → AreAllCopied r s connect h places (count + 1)
-all_copied_more r s connect h places count c here copied before i d l g = go (cases_lt i count)
-  where
-    go : (i < count) ⊎ (count ≤ i) → IsCopied r s connect h (windows_of d)
-    go (inl m) = before i d m g
-    go (inr m) =
-        let same : i ≡ count = omega arith in
-        subst (λ (x : Place). IsCopied r s connect h (windows_of x)) (sym (same_Some d c (sym g ∙ ap (slice_get places) same ∙ here))) copied

@@ -1,13 +1,13 @@
 -- Groups of pixels that are flooded: marks spread, and what is marked stands in a list.
-use Rattle.std.proofs.Common.{◌≡◌, ◌∙◌, ℕ, ◌+◌, ◌*◌, ◌<◌, ◌≤◌, Bool, true, false, List, [], ◌∷◌, ◌++◌, length, refl, sym, ap, subst, arith}
+use Rattle.std.proofs.Common.{◌≡◌, ◌∙◌, ℕ, ◌+◌, ◌-◌, ◌*◌, ◌<◌, ◌≤◌, Bool, true, false, List, [], ◌∷◌, ◌++◌, length, refl, sym, ap, subst, arith}
 use Rattle.std.proofs.Common.{◌⊎◌, inl, inr, append-nil, append_assoc, length-append, get_or, get_or-set_same, get_or-set_other, length-set, take}
 use Rattle.std.specs.Prelude.{IsTrue, All, Contains, Some, slice_get, slice_set, ◌==◌, ℤ, filter}
-use Rattle.std.specs.List.{range_with_len}
+use Rattle.std.specs.List.{list_any, range_with_len}
 use Rattle.std.proofs.lemmas.Bool.{cases_lt, eqb-true, eqb-false, true≢false}
 use Rattle.std.proofs.lemmas.List.Elements.{All-nil, All-cons, All-append, All-filter}
 use Rattle.std.proofs.lemmas.List.FromFn.{get_or-range_with_len, length-range_with_len}
 use Rattle.std.proofs.lemmas.Option.{slice_get_within}
-use Rattle.lemmas.proofs.Exported.{IsAmong, among-append_left, among-append_right, among-filter, among_of, among_get, contains_from_among}
+use Rattle.lemmas.proofs.Exported.{IsAmong, among-append_left, among-append_right, among-filter, among-range, among_of, among_get, contains_from_among, any_from_among}
 use Rattle.comp_tree.specs.declared.shape.Connect.{Connect}
 use Rattle.comp_tree.specs.declared.shape.Shape.{Shape}
 use Rattle.comp_tree.specs.Raster.{Raster, pixels, is_at_least}
@@ -16,7 +16,7 @@ use Rattle.comp_tree.specs.Joined.{IsPairOf}
 use Rattle.comp_tree.specs.Marks.{is_marked}
 use Rattle.comp_tree.proofs.Exported.{along_joined, adjacent_ends, adjacent_turned, among_from_defined, defined_from_at_least}
 use Rattle.source_sheet.specs.Laid.{HasFewAround}
-use Rattle.source_sheet.specs.Groups.{IsSurrounded, HasListed, HasLookedAt, HasLookedAtFirst, HasSpread, IsFlooding, IsFlooded, AreGrouped, HasGrouped}
+use Rattle.source_sheet.specs.Groups.{IsSurrounded, HasListed, HasLookedAt, HasLookedAtFirst, HasSpread, IsFlooding, IsFlooded, AreGrouped, HasGrouped, AreGroupedBefore}
 
 -- ---- lists
 
@@ -282,3 +282,20 @@ module _ (r : Raster) (connect : Connect) (h : ℤ) (min_area p : ℕ) (old : Li
       go : (a : ℕ) → IsTrue (is_marked old a) ⊎ Contains f.more.added a → Contains items a ⊎ HasFewAround r connect h min_area a
       go a (inl k) = elim (g.held a k) [ inl l ↦ inl (behind a (contains-left a front f.more.added l)) | inr l ↦ inr l ]
       go a (inr k) = inl (behind a (contains-right a front f.more.added k))
+
+-- ---- pixels that are passed over
+
+-- the pixels before `end` are grouped, where those before `first` are and no other one is high
+pub passed_over : (r : Raster) (connect : Connect) (h : ℤ) (min_area first end : ℕ) (marks : List Bool) (items : List ℕ)
+    → AreGroupedBefore r connect h min_area first marks items → list_any (is_at_least r h) (range_with_len first (end - first)) ≡ false
+    → AreGroupedBefore r connect h min_area end marks items
+passed_over r connect h min_area first end marks items f none = record {
+  grouped = f.grouped;
+  marked = λ a below high. elim (cases_lt a first) [
+    | inl l ↦ f.marked a l high
+    | inr l ↦ absurd (true≢false (sym (found a l below high) ∙ none))
+  ];
+}
+  where
+    found : (a : ℕ) → first ≤ a → a < end → IsTrue (is_at_least r h a) → IsTrue (list_any (is_at_least r h) (range_with_len first (end - first)))
+    found a l below high = any_from_among (is_at_least r h) a (range_with_len first (end - first)) (among-range first (end - first) a l (omega arith)) high

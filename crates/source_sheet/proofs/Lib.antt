@@ -13,4 +13,5 @@ mod Taking
 mod Putting
 mod Rows
 mod Showing
+mod WithTops
 pub mod Exported

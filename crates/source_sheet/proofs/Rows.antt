@@ -1,5 +1,5 @@
 -- The rows of the sheet's sources, taken back to the plane, and their cells.
-use Rattle.std.proofs.Common.{◌≡◌, ℕ, ◌+◌, ◌*◌, ◌^◌, ◌<◌, ◌≤◌, true, List, [], ◌∷◌, ◌++◌, length, take, map, get_or, refl, sym, ◌∙◌, ap, subst, arith, append-nil, length-append, ℤ, ◌-◌, neg_ℤ, lit<}
+use Rattle.std.proofs.Common.{◌≡◌, ℕ, ◌+◌, ◌*◌, ◌^◌, ◌<◌, ◌≤◌, true, List, [], ◌∷◌, ◌++◌, length, take, get_or, refl, sym, ◌∙◌, ap, subst, arith, append-nil, length-append, ℤ, ◌-◌, neg_ℤ, lit<}
 use Rattle.std.specs.Prelude.{pos, ◌+ℤ◌, ◌-ℤ◌, ◌*ℤ◌, ◌≤ℤ◌, Some, slice_get}
 use Rattle.std.specs.List.{flat_map, enumerate_from, AllByRecursion}
 use Rattle.std.proofs.lemmas.Int.{ints, to_z-of_z, to_z_pos}
@@ -17,8 +17,7 @@ use Rattle.comp_tree.specs.Components.{is_in_node, tree_of}
 use Rattle.comp_tree.specs.Laws.{IsNode, top_of}
 use Rattle.comp_tree.specs.Nesting.{pixels_of}
 use Rattle.comp_tree.proofs.Exported.{among_pixels, below_from_defined, in_node-defined, in_node_from_among, top_inside}
-use Rattle.node_sums.specs.declared.entry.Sums.{Sums}
-use Rattle.node_sums.specs.Sums.{x_of, y_of, least, greatest, sums_over, sums_of, AreSumsOfNode, AreSumsOfNodes}
+use Rattle.node_sums.specs.Sums.{x_of, y_of, least, greatest, sums_over, sums_of}
 use Rattle.node_sums.proofs.Exported.{x_small, y_small, least_at_most, greatest_up_to, fits}
 use Rattle.fits_write.specs.Columns.{IsTable}
 use Rattle.fits_write.specs.CatalogueColumns.{catalogue_columns}
@@ -30,7 +29,6 @@ use Rattle.source_pick.proofs.Exported.{first_inside, row_fits}
 use Rattle.source_sheet.specs.declared.sheet.Place.{Place}
 use Rattle.source_sheet.specs.declared.back.Taken.{Taken}
 use Rattle.source_sheet.specs.Laid.{part_of}
-use Rattle.node_sums.proofs.Exported.{sums_at}
 use Rattle.source_sheet.specs.Backs.{IsCoordinate, IsSmallRow, IsNear, HaveSums, found_as, found_of}
 use Rattle.source_sheet.proofs.Taking.{get_mapped}
 
@@ -124,13 +122,13 @@ pub all_more : {X : Type 0} (P : X → Type 0) (xs : List X) (x : X) → AllByRe
 all_more P [] x before here = (here, tt)
 all_more P (y ∷ xs) x before here = (before.0, all_more P xs x before.1 here)
 
-length-rows : (s : Raster) (connect : Connect) (h : ℤ) (taken : List Taken) → length (sheet_rows s connect (found_of s h taken)) ≡ length taken
+pub length-rows : (s : Raster) (connect : Connect) (h : ℤ) (taken : List Taken) → length (sheet_rows s connect (found_of s h taken)) ≡ length taken
 unfolding sheet_rows
 length-rows s connect h taken =
     length-map (enumerate_from 1 (found_of s h taken)) (λ e. row_back e.1.0 (catalogue_row s connect e.0 e.1.1))
     ∙ length-enumerate_from 1 (found_of s h taken) ∙ length-map taken (found_as s h)
 
-row_numbered : (s : Raster) (connect : Connect) (h : ℤ) (taken : List Taken) (count : ℕ) (e : Taken) (d : CatRow) → slice_get taken count ≡ Some e
+pub row_numbered : (s : Raster) (connect : Connect) (h : ℤ) (taken : List Taken) (count : ℕ) (e : Taken) (d : CatRow) → slice_get taken count ≡ Some e
     → get_or (sheet_rows s connect (found_of s h taken)) count d ≡ row_back (part_of s h e.place) (catalogue_row s connect (count + 1) e.node)
 unfolding sheet_rows
 row_numbered s connect h taken count e d got =

@@ -14,7 +14,7 @@ use Rattle.source_pick.specs.Catalogue.{cells_of}
 use Rattle.source_pick.specs.Segmentation.{segmentation_of}
 use Rattle.source_pick.specs.Laws.{SourcesAreDisjoint}
 use Rattle.source_pick.specs.Sheets.{Part, window_size, taken_back, AreTakenBack, sheet_rows}
-use Rattle.source_pick.specs.Sheets.{CopiesAreParts, SourcesAreLarge, SourcesComeFromThePlane, SheetGivesTheCatalogue, SheetGivesTheMap}
+use Rattle.source_pick.specs.Sheets.{CopiesAreParts, SourcesAreLarge, SourcesComeFromThePlane, SheetGivesTheCatalogue, SheetGivesTheMap, SheetGivesTheTops}
 use Rattle.source_sheet.specs.declared.sheet.Place.{Place}
 use Rattle.source_sheet.specs.declared.sheet.Sheet.{Sheet}
 use Rattle.source_sheet.specs.declared.back.Taken.{Taken}
@@ -28,6 +28,7 @@ pub record SheetLaws : Type 0 where
   pub come : SourcesComeFromThePlane
   pub disjoint : SourcesAreDisjoint
   pub catalogue : SheetGivesTheCatalogue
+  pub tops : SheetGivesTheTops
   pub map : SheetGivesTheMap
 
 -- ---- places

@@ -3,3 +3,4 @@ pub mod Laid
 pub mod Groups
 pub mod Holding
 pub mod Backs
+pub mod Tops

@@ -32,10 +32,10 @@ use std::thread::Threads;
 
 // A source of the sheet: the least pixel that it has in the plane, its node with its sums, and the place that holds it.
 #[derive(Clone, Copy)]
-struct Taken {
+pub(crate) struct Taken {
     first: u32,
-    node: u32,
-    place: Place,
+    pub(crate) node: u32,
+    pub(crate) place: Place,
     sums: Sums,
 }
 
@@ -50,7 +50,7 @@ pub(crate) fn stands_at(whole: Shape, left: u32, top: u32, shape: Shape, q: u32)
 }
 
 // A pixel that the place's window on the sheet has, as a pixel of the plane.
-fn back(whole: Shape, onto: Shape, place: &Place, p: u32) -> u32
+pub(crate) fn back(whole: Shape, onto: Shape, place: &Place, p: u32) -> u32
     requires placed { LiesInBoth whole onto place.now }
     requires lies { IsInWindow onto.width (windows_of place.now).to p }
     ensures { (s : Raster) (h : ℤ) → result ≡ taken_back whole.width onto.width (part_of s h place.now) p }
@@ -102,7 +102,7 @@ fn mark_owner(onto: Shape, place: &Place, number: u32, owners: &mut [u32])
 }
 
 // The laws of sheets and of sources, on which the clauses below rest.
-fn laws_of_sheets()
+pub(crate) fn laws_of_sheets()
     ensures { SheetLaws }
 {
     sources_of_sheets();
@@ -167,7 +167,7 @@ fn placed_sources(
 }
 
 // The sources of the sheet that its places hold, in the order of their least pixels in the plane.
-fn sorted_sources(
+pub(crate) fn sorted_sources(
     alloc: Global,
     sheet: &Sheet,
     tree: &Tree,
@@ -201,7 +201,8 @@ fn sorted_sources(
         &picked.sums,
         &picked.nodes,
     )?;
-    taken.sort_unstable_by_key(|source| source.first);
+    // a source is large, so the keys are sorted and the sources moved once
+    taken.sort_by_cached_key(|source| source.first)?;
     Ok(taken)
 }
 
@@ -227,7 +228,7 @@ fn row_back(row: &CatRow, place: &Place) -> CatRow
 }
 
 // The row of a source in the plane, with this number.
-fn taken_row(tree: &Tree, number: u32, source: &Taken) -> CatRow
+pub(crate) fn taken_row(tree: &Tree, number: u32, source: &Taken) -> CatRow
     requires sums { AreSumsOfNode tree.now source.now.node source.now.sums }
     requires node { IsNodeAt tree.now source.now }
     requires from_one { 1 ≤ number }
@@ -273,7 +274,7 @@ fn taken_cells(alloc: Global, tree: &Tree, taken: &[Taken]) -> Result<Vec<i64>, 
 }
 
 // The nodes of the sources alone.
-fn nodes_of(alloc: Global, taken: &[Taken]) -> Result<Vec<u32>, AllocError>
+pub(crate) fn nodes_of(alloc: Global, taken: &[Taken]) -> Result<Vec<u32>, AllocError>
     ensures { IfOk result (λ nodes. nodes.items ≡ nodes_in taken.now) }
 {
     taken.iter().map(|source| source.node).collect(alloc)

@@ -13,12 +13,18 @@ use crate::marks::PixelMarks;
 use crate::sheet::Place;
 use comp_tree::{Connect, Plane, Shape, neighbours};
 use costs::OutOfMemory;
+use rayon::prelude::*;
 use source_pick::Choice;
 use std::alloc::Global;
+use std::thread::Threads;
+
+// How many places a thread takes at least: fewer aren't worth its start.
+const PLACES_AT_LEAST: usize = 64;
 
 /// Whether a sheet may stand for the plane: its places are copies, none overlaps another one, and they hold each pixel that
 /// is listed. The one error is that memory was refused.
-pub(crate) fn is_laid_out(
+pub(crate) fn is_laid_out<R: Threads + Sync>(
+    rt: &R,
     alloc: Global,
     plane: &Plane,
     sheet: &Plane,
@@ -33,7 +39,7 @@ pub(crate) fn is_laid_out(
 {
     // for their clauses alone: how many pixels there are
     let _shapes = (plane.shape(), sheet.shape());
-    if !are_copied(plane, sheet, connect, choice, places) {
+    if !are_copied(rt, plane, sheet, connect, choice, places) {
         return Ok(false);
     }
     let apart = are_apart(alloc, plane, sheet, places)?;
@@ -44,8 +50,9 @@ pub(crate) fn is_laid_out(
     Ok(held)
 }
 
-// Whether each place is a copy.
-fn are_copied(
+// Whether each place is a copy. Threads share the places, since none needs what was found of another one.
+fn are_copied<R: Threads + Sync>(
+    rt: &R,
     plane: &Plane,
     sheet: &Plane,
     connect: Connect,
@@ -55,12 +62,13 @@ fn are_copied(
     ensures { IsTrue result
         → AreAllCopied plane.now sheet.now connect choice.now.threshold places.now (length places.now) }
 {
-    for place in places {
-        if !is_copied(plane, sheet, connect, choice, place) {
-            return false;
-        }
-    }
-    true
+    places.par_iter().with_min_len(PLACES_AT_LEAST).all(
+        rt,
+        |place: &Place| -> bool
+            ensures { IsTrue result
+                → IsCopied plane.entry.now sheet.entry.now connect choice.entry.now.threshold (windows_of place.now) }
+        { is_copied(plane, sheet, connect, choice, place) },
+    )
 }
 
 // Whether what a place shows of the sheet is a copy: each pixel of at least the threshold has its value and its

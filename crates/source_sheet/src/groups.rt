@@ -9,6 +9,9 @@ use costs::OutOfMemory;
 use source_pick::Choice;
 use std::alloc::Global;
 
+// So many pixels are looked at together, and passed over where all of them are low, as most are.
+const TOGETHER: u32 = 16;
+
 /// Groups of pixels of at least the threshold that reach each other: one behind the other in one list. Groups of fewer than `min_area`
 /// pixels are left out: no source lies in one.
 #[derive(Drop)]
@@ -56,8 +59,65 @@ fn scan(
     ensures inside { IfOk result (λ whole. whole ≡ true → All (λ p. p < length plane.now.values) groups.new.pixels.items) }
 {
     let count = plane.shape().pixels();
-    for p in 0..count {
-        if !look_at(plane, connect, choice, count / 2, p, marks, groups)? {
+    let mut first = 0;
+    while first < count {
+        let end = first + TOGETHER.min(count - first);
+        if !look_at_piece(plane, connect, choice, count / 2, first, end, marks, groups)? {
+            return Ok(false);
+        }
+        first = end;
+    }
+    Ok(true)
+}
+
+// Finds the groups of the pixels from `first` up to `end`: where all of them are low, there are none. It gives up where the groups have more
+// than `most` pixels, and tells whether it didn't.
+#[inline]
+fn look_at_piece(
+    plane: &Plane,
+    connect: Connect,
+    choice: &Choice,
+    most: u32,
+    first: u32,
+    end: u32,
+    marks: &mut PixelMarks,
+    groups: &mut Groups,
+) -> Result<bool, OutOfMemory>
+    requires order { first ≤ end }
+    requires inside { end ≤ length plane.now.values }
+    requires before { AreGroupedBefore plane.now connect choice.now.threshold choice.now.min_area first marks.old groups.old.pixels.items }
+    requires few { length groups.old.pixels.items ≤ most }
+    ensures few { IfOk result (λ whole. whole ≡ true → length groups.new.pixels.items ≤ most) }
+    ensures before { IfOk result (λ whole. whole ≡ true
+        → AreGroupedBefore plane.now connect choice.now.threshold choice.now.min_area end marks.new groups.new.pixels.items) }
+{
+    if !plane.any_at_least(choice.threshold, first, end) {
+        return Ok(true);
+    }
+    look_at_all(plane, connect, choice, most, first, end, marks, groups)
+}
+
+// The same by a look at each of them.
+fn look_at_all(
+    plane: &Plane,
+    connect: Connect,
+    choice: &Choice,
+    most: u32,
+    first: u32,
+    end: u32,
+    marks: &mut PixelMarks,
+    groups: &mut Groups,
+) -> Result<bool, OutOfMemory>
+    requires order { first ≤ end }
+    requires inside { end ≤ length plane.now.values }
+    requires before { AreGroupedBefore plane.now connect choice.now.threshold choice.now.min_area first marks.old groups.old.pixels.items }
+    requires few { length groups.old.pixels.items ≤ most }
+    ensures few { IfOk result (λ whole. whole ≡ true → length groups.new.pixels.items ≤ most) }
+    ensures before { IfOk result (λ whole. whole ≡ true
+        → AreGroupedBefore plane.now connect choice.now.threshold choice.now.min_area end marks.new groups.new.pixels.items) }
+{
+    for p in first..end {
+        if !look_at(plane, connect, choice, most, p, marks, groups)? {
             return Ok(false);
         }
     }

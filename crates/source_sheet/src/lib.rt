@@ -13,9 +13,11 @@ mod layout;
 mod map;
 mod marks;
 mod sheet;
+mod tops;
 
 pub use back::{SheetDetection, sources_of_sheet};
 pub use sheet::{Place, Sheet, lay_out};
+pub use tops::{PickedSource, SheetSources, sources_with_tops};
 
 #[cfg(test)]
 mod tests;

@@ -11,6 +11,7 @@ use comp_tree::{Connect, Plane, Shape};
 use costs::OutOfMemory;
 use source_pick::Choice;
 use std::alloc::Global;
+use std::thread::Threads;
 
 /// A window of a plane and its like on the sheet, both of this shape: where the first pixel of each stands.
 #[derive(Clone, Copy, PartialEq, Eq, Debug)]
@@ -31,8 +32,9 @@ pub struct Sheet {
 }
 
 /// Lays the high pixels of a plane out on a sheet. `None` where the sheet would take more than half of the plane's pixels:
-/// then the plane is worked on whole. The one error is that memory was refused.
-pub fn lay_out(
+/// then the plane is worked on whole. Threads share the check of the places. The one error is that memory was refused.
+pub fn lay_out<R: Threads + Sync>(
+    rt: &R,
     alloc: Global,
     plane: &Plane,
     connect: Connect,
@@ -50,6 +52,7 @@ pub fn lay_out(
     let copy = copy_groups(alloc, plane, connect, choice, &groups, &layout)?;
     let places = layout.places;
     let good = is_laid_out(
+        rt,
         alloc,
         plane,
         &copy,

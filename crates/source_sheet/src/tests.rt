@@ -1,6 +1,6 @@
 //! Sheets of small planes, and what they tell of them.
 use crate::marks::PixelMarks;
-use crate::{lay_out, sources_of_sheet};
+use crate::{lay_out, sources_of_sheet, sources_with_tops};
 use comp_tree::{Connect, Plane, Shape, plain_tree};
 use source_pick::Choice;
 use std::alloc::Global;
@@ -42,7 +42,7 @@ fn a_mark_stands_alone(rt: HostRuntime) -> Result<(), Fail> {
 fn a_group_stands_on_the_sheet(rt: HostRuntime) -> Result<(), Fail> {
     let alloc = rt.alloc();
     let plane = plane_with(alloc, &[(0, 6), (19, 7), (20, 9)])?;
-    let sheet = lay_out(alloc, &plane, Connect::Four, &CHOICE)?.ok_or("a sheet")?;
+    let sheet = lay_out(&rt, alloc, &plane, Connect::Four, &CHOICE)?.ok_or("a sheet")?;
     assert_eq!(rt; sheet.plane.shape().pixels(), 12);
     assert!(rt; sheet.whole == plane.shape() && sheet.places.len() == 1);
     Ok(())
@@ -53,7 +53,7 @@ fn a_group_stands_on_the_sheet(rt: HostRuntime) -> Result<(), Fail> {
 fn a_group_stands_with_its_corners(rt: HostRuntime) -> Result<(), Fail> {
     let alloc = rt.alloc();
     let plane = plane_with(alloc, &[(0, 6), (19, 7), (20, 9)])?;
-    let sheet = lay_out(alloc, &plane, Connect::Eight, &CHOICE)?.ok_or("a sheet")?;
+    let sheet = lay_out(&rt, alloc, &plane, Connect::Eight, &CHOICE)?.ok_or("a sheet")?;
     assert_eq!(rt; sheet.plane.shape().pixels(), 12);
     Ok(())
 }
@@ -63,9 +63,21 @@ fn a_group_stands_with_its_corners(rt: HostRuntime) -> Result<(), Fail> {
 fn windows_touch_on_the_sheet(rt: HostRuntime) -> Result<(), Fail> {
     let alloc = rt.alloc();
     let plane = plane_with(alloc, &[(19, 7), (20, 9), (43, 6), (44, 6)])?;
-    let sheet = lay_out(alloc, &plane, Connect::Eight, &CHOICE)?.ok_or("a sheet")?;
+    let sheet = lay_out(&rt, alloc, &plane, Connect::Eight, &CHOICE)?.ok_or("a sheet")?;
     assert_eq!(rt; sheet.places.len(), 2);
     assert_eq!(rt; sheet.plane.shape().pixels(), 24);
+    Ok(())
+}
+
+// Two pairs that share a corner are two groups, and with `Connect::Eight` one.
+#[test]
+fn groups_share_a_corner(rt: HostRuntime) -> Result<(), Fail> {
+    let alloc = rt.alloc();
+    let plane = plane_with(alloc, &[(18, 7), (19, 9), (28, 6), (29, 6)])?;
+    let apart = lay_out(&rt, alloc, &plane, Connect::Four, &CHOICE)?.ok_or("a sheet")?;
+    assert_eq!(rt; apart.places.len(), 2);
+    let joined = lay_out(&rt, alloc, &plane, Connect::Eight, &CHOICE)?.ok_or("a sheet")?;
+    assert_eq!(rt; joined.places.len(), 1);
     Ok(())
 }
 
@@ -74,7 +86,7 @@ fn windows_touch_on_the_sheet(rt: HostRuntime) -> Result<(), Fail> {
 fn a_window_at_an_edge_has_a_frame(rt: HostRuntime) -> Result<(), Fail> {
     let alloc = rt.alloc();
     let plane = plane_with(alloc, &[(61, 7), (62, 9)])?;
-    let sheet = lay_out(alloc, &plane, Connect::Eight, &CHOICE)?.ok_or("a sheet")?;
+    let sheet = lay_out(&rt, alloc, &plane, Connect::Eight, &CHOICE)?.ok_or("a sheet")?;
     assert_eq!(rt; sheet.plane.shape().pixels(), 24);
     Ok(())
 }
@@ -85,7 +97,7 @@ fn a_plane_of_high_pixels_has_no_sheet(rt: HostRuntime) -> Result<(), Fail> {
     let alloc = rt.alloc();
     let shape = Shape::of(3, 1).ok_or("a shape")?;
     let plane = Plane::of(alloc, shape, &[Some(5), Some(5), None])?.ok_or("a plane")?;
-    assert!(rt; lay_out(alloc, &plane, Connect::Four, &CHOICE)?.is_none());
+    assert!(rt; lay_out(&rt, alloc, &plane, Connect::Four, &CHOICE)?.is_none());
     Ok(())
 }
 
@@ -94,7 +106,7 @@ fn a_plane_of_high_pixels_has_no_sheet(rt: HostRuntime) -> Result<(), Fail> {
 fn a_source_is_taken_back(rt: HostRuntime) -> Result<(), Fail> {
     let alloc = rt.alloc();
     let plane = plane_with(alloc, &[(0, 6), (61, 7), (62, 9)])?;
-    let Some(sheet) = lay_out(alloc, &plane, Connect::Four, &CHOICE)? else {
+    let Some(sheet) = lay_out(&rt, alloc, &plane, Connect::Four, &CHOICE)? else {
         return Err(Fail::from("a sheet"));
     };
     let tree = plain_tree(alloc, &sheet.plane, Connect::Four)?;
@@ -104,6 +116,30 @@ fn a_source_is_taken_back(rt: HostRuntime) -> Result<(), Fail> {
     let mut map = [0; 64];
     map[61] = 1;
     map[62] = 1;
+    assert!(rt; found.map.as_slice() == map.as_slice());
+    Ok(())
+}
+
+// So are the rows of two pairs and the pixels that represent them, in the order of the plane. On the sheet the higher one stands first.
+#[test]
+fn sources_are_taken_back_with_their_tops(rt: HostRuntime) -> Result<(), Fail> {
+    let alloc = rt.alloc();
+    let plane = plane_with(alloc, &[(20, 7), (19, 9), (35, 6), (43, 8)])?;
+    let Some(sheet) = lay_out(&rt, alloc, &plane, Connect::Four, &CHOICE)? else {
+        return Err(Fail::from("a sheet"));
+    };
+    let tree = plain_tree(alloc, &sheet.plane, Connect::Four)?;
+    let found = sources_with_tops(&rt, alloc, &sheet, tree, &CHOICE, 2)?;
+    let [first, second] = found.sources.as_slice() else {
+        return Err(Fail::from("two sources"));
+    };
+    assert!(rt; first.rep == 20 && first.row.number == 1 && first.row.flux == 16);
+    assert!(rt; second.rep == 35 && second.row.number == 2 && second.row.flux == 14);
+    let mut map = [0; 64];
+    map[19] = 1;
+    map[20] = 1;
+    map[35] = 2;
+    map[43] = 2;
     assert!(rt; found.map.as_slice() == map.as_slice());
     Ok(())
 }

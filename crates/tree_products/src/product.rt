@@ -183,7 +183,7 @@ fn ground_for_sources<R: Threads + Sync>(
 ) -> Result<Ground, OutOfMemory>
     ensures { IfOk result (λ on. IsGroundFor (Detect choice) connect plane on) }
 {
-    match lay_out(alloc, &plane, connect, &choice)? {
+    match lay_out(rt, alloc, &plane, connect, &choice)? {
         Some(sheet) => Ok(Ground::Sheet(sheet)),
         None => Ok(Ground::Whole(without_far(rt, alloc, plane, connect, choice, workers)?)),
     }

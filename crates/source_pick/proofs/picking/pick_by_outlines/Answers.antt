@@ -49,9 +49,9 @@ returns-clause-exact c =
     c.in_ok-placed.ensures c.args.plane.now connect sums ∙ ap (map (with_sums c.args.plane.now connect)) c.deref-3.ensures.value in
     picked_exact c.args.choice.now c.args.plane.now connect c.args.tree.now c.args.outlines.now c.in_ok-nodes.nodes.items c.deref-4.result.now
     c.in_ok-placed.placed.items c.deref-5.result.now p.nodes.items p.sums.items plane of_tree (c.requires.of_plane connect of_tree) listed placed
-    (subst (λ (xs : List PlacedSource). IsPermutation c.in_ok-placed.placed.items xs) (sym c.deref-5.ensures.value) c.sort_unstable_by_key.ensures.permutation)
+    (subst (λ (xs : List PlacedSource). IsPermutation c.in_ok-placed.placed.items xs) (sym c.deref-5.ensures.value) c.in_ok-sort_by_cached_key.ensures.permutation)
     (subst (λ (xs : List PlacedSource). IsNonDecreasingBy (λ (s : PlacedSource). s.sums.first) xs) (sym c.deref-5.ensures.value)
-    (IsNonDecreasingBy-from_sort_by_key (λ (s : PlacedSource). s.sums.first) _ c.sort_unstable_by_key.ensures.sorted (λ a r q k. search rules)))
+    (IsNonDecreasingBy-from_sort_by_key (λ (s : PlacedSource). s.sums.first) _ c.in_ok-sort_by_cached_key.ensures.sorted (λ a r q k. search rules)))
     e f)
     c.picked_of.ensures.nodes c.picked_of.ensures.sums
 

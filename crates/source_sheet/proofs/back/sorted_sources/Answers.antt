@@ -63,8 +63,8 @@ returns-clause-back c = λ plane connect l is.
     (firsts_read (sums_in c.args.sheet.now.plane connect) c.in_ok-picked.picked.nodes.items c.deref-5.result.now c.in_ok-picked.picked.sums.items
     c.deref-4.result.now c.deref-5.ensures.value c.deref-4.ensures.value
     (firsts_of_picked c.args.sheet.now.plane connect c.args.choice.now c.in_ok-picked.picked.nodes.items c.in_ok-picked.picked.sums.items l.one_each_there
-    (c.in_ok-picked.ensures.exact connect is).nodes_are (c.in_ok-picked.ensures.exact connect is).sums_are))) c.sort_unstable_by_key.ensures.permutation
-    (IsNonDecreasingBy-from_sort_by_key (λ (s : Taken). s.first) _ c.sort_unstable_by_key.ensures.sorted (λ a r q k. search rules)))
+    (c.in_ok-picked.ensures.exact connect is).nodes_are (c.in_ok-picked.ensures.exact connect is).sums_are))) c.in_ok-sort_by_cached_key.ensures.permutation
+    (IsNonDecreasingBy-from_sort_by_key (λ (s : Taken). s.first) _ c.in_ok-sort_by_cached_key.ensures.sorted (λ a r q k. search rules)))
 
 pub returns-clause-placed : goal.returns-clause-placed
 returns-clause-placed c =
@@ -77,8 +77,8 @@ returns-clause-placed c =
     (firsts_read (sums_in c.args.sheet.now.plane t.connect) c.in_ok-picked.picked.nodes.items c.deref-5.result.now c.in_ok-picked.picked.sums.items
     c.deref-4.result.now c.deref-5.ensures.value c.deref-4.ensures.value
     (firsts_of_picked c.args.sheet.now.plane t.connect c.args.choice.now c.in_ok-picked.picked.nodes.items c.in_ok-picked.picked.sums.items t.laid_out.one_each_there
-    (c.in_ok-picked.ensures.exact t.connect t.tree_is).nodes_are (c.in_ok-picked.ensures.exact t.connect t.tree_is).sums_are))) c.sort_unstable_by_key.ensures.permutation
-    (IsNonDecreasingBy-from_sort_by_key (λ (s : Taken). s.first) _ c.sort_unstable_by_key.ensures.sorted (λ a r q k. search rules)))
+    (c.in_ok-picked.ensures.exact t.connect t.tree_is).nodes_are (c.in_ok-picked.ensures.exact t.connect t.tree_is).sums_are))) c.in_ok-sort_by_cached_key.ensures.permutation
+    (IsNonDecreasingBy-from_sort_by_key (λ (s : Taken). s.first) _ c.in_ok-sort_by_cached_key.ensures.sorted (λ a r q k. search rules)))
 
 pub returns-clause-nodes : goal.returns-clause-nodes
 returns-clause-nodes c =
@@ -91,8 +91,8 @@ returns-clause-nodes c =
     (firsts_read (sums_in c.args.sheet.now.plane t.connect) c.in_ok-picked.picked.nodes.items c.deref-5.result.now c.in_ok-picked.picked.sums.items
     c.deref-4.result.now c.deref-5.ensures.value c.deref-4.ensures.value
     (firsts_of_picked c.args.sheet.now.plane t.connect c.args.choice.now c.in_ok-picked.picked.nodes.items c.in_ok-picked.picked.sums.items t.laid_out.one_each_there
-    (c.in_ok-picked.ensures.exact t.connect t.tree_is).nodes_are (c.in_ok-picked.ensures.exact t.connect t.tree_is).sums_are))) c.sort_unstable_by_key.ensures.permutation
-    (IsNonDecreasingBy-from_sort_by_key (λ (s : Taken). s.first) _ c.sort_unstable_by_key.ensures.sorted (λ a r q k. search rules)))
+    (c.in_ok-picked.ensures.exact t.connect t.tree_is).nodes_are (c.in_ok-picked.ensures.exact t.connect t.tree_is).sums_are))) c.in_ok-sort_by_cached_key.ensures.permutation
+    (IsNonDecreasingBy-from_sort_by_key (λ (s : Taken). s.first) _ c.in_ok-sort_by_cached_key.ensures.sorted (λ a r q k. search rules)))
     c.args.tree.now t.tree_is
 
 pub returns-clause-at : goal.returns-clause-at
@@ -108,11 +108,11 @@ pub returns-clause-sums : goal.returns-clause-sums
 returns-clause-sums c = λ i e got.
     own_of_node c.args.tree.now c.in_ok-picked.picked.nodes.items c.in_ok-picked.picked.sums.items e c.in_ok-picked.ensures.sums
     (own_moved c.in_ok-picked.picked.nodes.items c.deref-5.result.now c.in_ok-picked.picked.sums.items c.deref-4.result.now _ _ c.deref-5.ensures.value
-    c.deref-4.ensures.value c.sort_unstable_by_key.ensures.permutation c.in_ok-taken.ensures.own i e got)
+    c.deref-4.ensures.value c.in_ok-sort_by_cached_key.ensures.permutation c.in_ok-taken.ensures.own i e got)
 
 pub returns-clause-exact : goal.returns-clause-exact
 returns-clause-exact c = λ connect is i e got.
     own_sums c.args.sheet.now.plane connect c.in_ok-picked.picked.nodes.items c.in_ok-picked.picked.sums.items e
     (c.in_ok-picked.ensures.exact connect is).sums_are
     (own_moved c.in_ok-picked.picked.nodes.items c.deref-5.result.now c.in_ok-picked.picked.sums.items c.deref-4.result.now _ _ c.deref-5.ensures.value
-    c.deref-4.ensures.value c.sort_unstable_by_key.ensures.permutation c.in_ok-taken.ensures.own i e got)
+    c.deref-4.ensures.value c.in_ok-sort_by_cached_key.ensures.permutation c.in_ok-taken.ensures.own i e got)

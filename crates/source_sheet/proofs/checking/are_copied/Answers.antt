@@ -1,13 +1,21 @@
-use Rattle.std.proofs.Common.{length, refl, arith}
-use Rattle.std.proofs.lemmas.Option.{slice_get_read}
-use Rattle.source_sheet.proofs.Copies.{all_copied_more}
+use Rattle.std.proofs.Common.{◌≡◌, All, map, ap, subst, ◌∙◌, refl, Bor, Bool, true, false}
+use Rattle.std.specs.Prelude.{Any, IsTrue, MatchBool}
+use Rattle.std.proofs.lemmas.List.Elements.{All-get_or}
+use Rattle.std.proofs.lemmas.Option.{get_or_from_slice_get}
+use Rattle.rayon.proofs.ToStd.{slice-All}
+use Rattle.source_pick.specs.Sheets.{IsCopied}
+use Rattle.source_sheet.specs.declared.sheet.Place.{Place}
+use Rattle.source_sheet.specs.Laid.{windows_of}
 use Rattle.source_sheet.proofs.checking.are_copied.Goals as goal
 
-pub loop-place-preserved : goal.loop-place-preserved
-loop-place-preserved c =
-    all_copied_more c.args.plane.now c.args.sheet.now c.args.connect c.args.choice.now.threshold c.args.places.now c.loop-place.place-index c.place-item.result
-    (slice_get_read c.args.places.now (length c.args.places.now) c.loop-place.place-index c.place-item.result refl c.loop-place-test.true c.place-item.is)
-    (c.is_copied.ensures c.if-not-is_copied.false) c.loop-place.invariant
-
 pub returns : goal.returns
-returns c = λ _ i d l g. c.loop-place.invariant i d (omega (arith, l, c.loop-place-test.false)) g
+returns g c = λ good i d l at.
+    let plane = c.args.plane.now in
+    let sheet = c.args.sheet.now in
+    let done = c.all.ensures in
+    let places = c.args.places.now in
+    let shown : map (λ (z : Bor Place). z.now) done.0 ≡ places = done.1 ∙ ap (λ it. it.slice.now) c.with_min_len.ensures.base ∙ c.par_iter.ensures in
+    let Says : Bool → Place → Type 0 = λ b p. IsTrue b → IsCopied plane sheet c.args.connect c.args.choice.now.threshold (windows_of p) in
+    let each : All (λ (z : Bor Place). Says true z.now) done.0 =
+    subst (λ b. MatchBool b (All (λ (z : Bor Place). Says true z.now) done.0) (Any (λ (z : Bor Place). Says false z.now) done.0)) good done.2 in
+    subst (Says true) (get_or_from_slice_get places i d d at) (All-get_or (Says true) places i d l (slice-All done.0 places shown (Says true) each)) refl
