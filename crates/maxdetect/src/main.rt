@@ -4,8 +4,12 @@
 use command_line::words::{NO_MEMORY, words};
 use detect_top::run_all;
 use dev_io::{ReadSource, WriteSink};
+use std::io::BufWriter;
 use std::process::ExitCode;
 use strip_crew::OpenGate;
+
+// So many bytes of output go to the device at once.
+const AT_ONCE: usize = 65_536;
 
 fn main(rt: HostRuntime) -> ExitCode {
     let alloc = rt.alloc();
@@ -19,7 +23,10 @@ fn main(rt: HostRuntime) -> ExitCode {
         }
     }
     let mut input = ReadSource::new(rt.stdin());
-    let mut output = WriteSink::new(rt.stdout());
+    let Ok(stdout) = BufWriter::with_capacity(alloc, AT_ONCE, rt.stdout()) else {
+        return ExitCode::from(NO_MEMORY);
+    };
+    let mut output = WriteSink::new(stdout);
     let mut notes = WriteSink::new(rt.stderr());
     let status = run_all(
         &rt,

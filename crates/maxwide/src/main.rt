@@ -4,9 +4,13 @@
 use command_line::words::{NO_MEMORY, words};
 use dev_io::{ReadSource, WriteSink};
 use pixel_plane::Limits;
+use std::io::BufWriter;
 use std::process::ExitCode;
 use strip_crew::OpenGate;
 use wide_top::run_wide;
+
+// So many bytes of output go to the device at once.
+const AT_ONCE: usize = 65_536;
 
 fn main(rt: HostRuntime) -> ExitCode {
     let alloc = rt.alloc();
@@ -20,7 +24,10 @@ fn main(rt: HostRuntime) -> ExitCode {
         }
     }
     let mut input = ReadSource::new(rt.stdin());
-    let mut output = WriteSink::new(rt.stdout());
+    let Ok(stdout) = BufWriter::with_capacity(alloc, AT_ONCE, rt.stdout()) else {
+        return ExitCode::from(NO_MEMORY);
+    };
+    let mut output = WriteSink::new(stdout);
     let mut notes = WriteSink::new(rt.stderr());
     let status = run_wide(
         &rt,
