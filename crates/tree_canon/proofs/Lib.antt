@@ -1,5 +1,6 @@
 mod Finding
 mod Fitting
+mod Joining
 mod Numbering
 mod Parents
 mod Placing

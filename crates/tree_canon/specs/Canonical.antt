@@ -1,5 +1,6 @@
 -- Bookkeeping: what canonical numbering reads off the links of a forest, which has one link for each pixel of a plane r.
-use Rattle.std.specs.Prelude.{◌≡◌, ℕ, Bool, ◌&&◌, ◌||◌, ◌==◌, not, IsFalse, List, length, filter, slice_index_or, slice_get, Some}
+use Rattle.std.specs.Prelude.{◌≡◌, ℕ, ◌+◌, ◌-◌, ◌*◌, min, Bool, ◌&&◌, ◌||◌, ◌==◌, not, IsFalse, List, length, filter, slice_index_or, slice_get, Some}
+use Rattle.std.specs.List.{range_with_len}
 use Rattle.comp_tree.specs.declared.tree.NodeRow.{NodeRow}
 use Rattle.comp_tree.specs.Raster.{Raster, pixels, is_defined, is_at_least, level}
 use Rattle.comp_tree.specs.Components.{in_order, no_node}
@@ -9,6 +10,14 @@ use Rattle.comp_tree.specs.Forest.{link_of}
 unfoldable pub is_canonical : Raster → List ℕ → ℕ → Bool
 is_canonical r links p =
     is_defined r p && (link_of 0 links p == no_node || not (is_at_least r (level r p) (link_of 0 links p)))
+
+-- the canonical pixels from first up to and without end
+abbrev pub canonical_between : Raster → List ℕ → ℕ → ℕ → List ℕ
+canonical_between r links first end = filter (is_canonical r links) (range_with_len first (end - first))
+
+-- the canonical pixels of a band, where each band has size pixels, or fewer at the end
+abbrev pub canonical_in_band : Raster → List ℕ → ℕ → ℕ → List ℕ
+canonical_in_band r links size band = canonical_between r links (band * size) (min (band * size + size) (length r.values))
 
 -- the canonical pixels, in the order of pixels: the place of one in this list is the number of its node
 unfoldable pub canonical_pixels : Raster → List ℕ → List ℕ

@@ -1,8 +1,7 @@
 //! The rows of the nodes: one for each canonical pixel, which is a defined pixel whose link is `NONE` or has a smaller value (the
 //! level roots of Wilkinson et al. 2008).
 
-ghost use Rattle.std.specs.Prelude.{◌≡◌, ◌<◌, length, map, filter, All, IfOk};
-ghost use Rattle.comp_tree.specs.Raster.{pixels as all_pixels};
+ghost use Rattle.std.specs.Prelude.{◌≡◌, ◌<◌, length, map, All, IfOk};
 ghost use Rattle.comp_tree.specs.Components.{in_order};
 ghost use Rattle.comp_tree.specs.Forest.{IsForest};
 ghost use Rattle.tree_canon.specs.Canonical.{is_canonical as is_canonical_in, loose_row, with_parent};
@@ -13,31 +12,9 @@ use comp_tree::{NONE, NodeRow, Plane};
 use costs::OutOfMemory;
 use std::alloc::Global;
 
-// The canonical pixels, in the order of pixel numbers. Each is defined, so it is enough to go from one defined pixel to the next.
-pub(crate) fn find_canonical(
-    alloc: Global,
-    plane: &Plane,
-    links: &[u32],
-) -> Result<Vec<u32>, OutOfMemory>
-    requires one_each { length links.now ≡ length plane.now.values }
-    requires forest { IsForest plane.now.values 0 links.now }
-    ensures { IfOk result (λ found. found.items ≡ filter (is_canonical_in plane.now links.now) (all_pixels plane.now)) }
-{
-    let mut found = Vec::new(alloc);
-    let count = plane.shape().pixels();
-    let mut p = plane.next_defined(0, count);
-    while p < count {
-        if is_canonical(plane, links, p) {
-            found.push(p)?;
-        }
-        p = plane.next_defined(p + 1, count);
-    }
-    Ok(found)
-}
-
 // Whether a pixel is canonical. In a forest only a defined pixel has a link.
 #[inline]
-fn is_canonical(plane: &Plane, links: &[u32], p: u32) -> bool
+pub(crate) fn is_canonical(plane: &Plane, links: &[u32], p: u32) -> bool
     requires one_each { length links.now ≡ length plane.now.values }
     requires forest { IsForest plane.now.values 0 links.now }
     requires pixel { p < length plane.now.values }

@@ -11,25 +11,25 @@ use Rattle.tree_canon.proofs.Trees.{rows_from, tree_is, well_formed}
 use Rattle.tree_canon.proofs.canon.Goals as goal
 
 pub number_nodes-requires-clause-canonical : goal.number_nodes-requires-clause-canonical
-number_nodes-requires-clause-canonical c = c.deref.ensures.value ∙ c.in_ok-pixels.ensures
+number_nodes-requires-clause-canonical g c = c.deref.ensures.value ∙ c.in_ok-pixels.ensures
 
 pub set_parents-requires-clause-within : goal.set_parents-requires-clause-within
-set_parents-requires-clause-within c =
+set_parents-requires-clause-within g c =
     pixels_within c.args.plane.now c.parents-links.result.now c.deref-3.result.now (ap length c.parents-links.ensures ∙ c.requires.one_each)
     (c.deref-3.ensures.value ∙ c.in_ok-pixels.ensures)
 
 pub set_parents-requires-clause-one_each : goal.set_parents-requires-clause-one_each
-set_parents-requires-clause-one_each c = ap length c.deref-2.ensures.value ∙ c.in_ok-made.ensures.numbers.one_each
+set_parents-requires-clause-one_each g c = ap length c.deref-2.ensures.value ∙ c.in_ok-made.ensures.numbers.one_each
 
 pub set_parents-requires-clause-rows : goal.set_parents-requires-clause-rows
-set_parents-requires-clause-rows c =
+set_parents-requires-clause-rows g c =
     rows_by_pixels c.args.plane.now c.parents-links.result.now c.deref-3.result.now c.deref-2.result.now c.deref_mut.result.now
     (c.deref-3.ensures.value ∙ c.in_ok-pixels.ensures)
     (c.deref_mut.ensures.value ∙ c.in_ok-made.ensures.rows)
     (subst (IsNumbering c.args.plane.now c.parents-links.result.now) (sym c.deref-2.ensures.value) c.in_ok-made.ensures.numbers)
 
 pub returns : goal.returns
-returns c = λ connect stands.
+returns g c = λ connect stands.
     let r = c.args.plane.now in let links = c.parents-links.result.now in let same = c.parents-links.ensures in
     let plane : IsPlane r = c.shape-shape.ensures.pixels ∙ ap (λ (s : Shape). s.width * s.height) c.shape-shape.ensures.same in
     let new = c.set_parents.new.rows in
@@ -43,7 +43,7 @@ returns c = λ connect stands.
     c.deref_mut.ensures.value c.deref-2.ensures.value c.set_parents.ensures)
 
 pub of-requires : goal.of-requires
-of-requires c =
+of-requires g c =
     let r = c.args.plane.now in let links = c.parents-links.result.now in let same = c.parents-links.ensures in
     let plane : IsPlane r = c.shape-shape.ensures.pixels ∙ ap (λ (s : Shape). s.width * s.height) c.shape-shape.ensures.same in
     let new = c.set_parents.new.rows in
