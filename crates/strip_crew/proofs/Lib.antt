@@ -12,5 +12,6 @@ mod Copying
 mod EvenCuts
 mod Flooded
 mod Halving
+mod Skipping
 mod Apart
 mod Pixels

@@ -44,5 +44,5 @@ pub fn component_tree<R: Threads + Sync, G: Gate>(
     let shape = plane.shape();
     let cut = even_cut(alloc, shape.height, strips.max(least_strips(shape)))?;
     let forest = flood_all(rt, alloc, plane, connect, &cut, workers, gate)?;
-    canon(alloc, plane, &forest)
+    canon(rt, alloc, plane, &forest, workers)
 }

@@ -17,7 +17,7 @@ use crate::gate::Gate;
 use crate::prepare::prepare_all;
 use crate::rule::{ClaimSeat, ClaimTable, Dismiss, Key, Recruit};
 use atomic_table::{Closed, Refused};
-use comp_tree::{Connect, Forest, Plane};
+use comp_tree::{Connect, Forest, NONE, Plane};
 use costs::OutOfMemory;
 use std::alloc::Global;
 use std::snapshot::Snapshot;
@@ -302,13 +302,24 @@ fn flood_strips<R: Threads + Sync, G: Gate>(
     Ok(gather_links(closed, room, plane, connect, cut))
 }
 
+// A place for the skip of each pixel. One strip needs none: nothing is joined.
+fn room_for_skips(alloc: Global, plane: &Plane, cut: &[u32]) -> Result<Vec<u32>, OutOfMemory>
+    ensures { IfOk result (λ skips. length cut.now ≢ 1 → length skips.items ≡ length plane.now.values) }
+{
+    if cut.len() == 1 {
+        return Ok(Vec::new(alloc));
+    }
+    Ok(vec![in alloc; NONE; plane.shape().pixels() as usize]?)
+}
+
 /// Floods the plane in strips and joins them: a forest of the plane that stands for all its adjacencies, whatever the
 /// cut, the number of workers and the schedule.
 ///
 /// `cut` has the first row of each strip: it begins with 0 and rises, up to a row of the plane (`even_cut` gives such
 /// a one). In a plane of more than 2^24 pixels no strip has more than that. There are from 1 to 64 workers, each in a
-/// thread of its own where one can be made; else they run one after another. All memory is taken before the first of them starts: the jobs of the strips (prepared in parallel), the
-/// table of claims, a place for each worker's seat, and the links, which one strip's job has already. Once all strips are
+/// thread of its own where one can be made; else they run one after another. All memory is taken before the first of them
+/// starts: a place for the skip of each pixel where there are several strips, the jobs of the strips (prepared in parallel),
+/// the table of claims, a place for each worker's seat, and the links, which one strip's job has already. Once all strips are
 /// flooded, `join_group` joins them with 6 forks, so up to 64 groups of strips at once, whatever the number of workers.
 pub fn flood_all<R: Threads + Sync, G: Gate>(
     rt: &R,
@@ -328,7 +339,8 @@ pub fn flood_all<R: Threads + Sync, G: Gate>(
     ensures stands { IfOk result (λ forest. StandsFor plane.now.values 0 forest
         (IsAdjacency plane.now.values plane.now.shape.width connect)) }
 {
+    let mut skips = room_for_skips(alloc, plane, cut)?;
     let mut links = flood_strips(rt, alloc, plane, connect, cut, workers, gate)?;
-    join_cut(rt, &mut links, plane, connect, cut);
+    join_cut(rt, &mut links, &mut skips, plane, connect, cut);
     Ok(Forest::of(links))
 }

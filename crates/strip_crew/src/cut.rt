@@ -38,10 +38,11 @@ pub fn even_cut(alloc: Global, height: u32, strips: u32) -> Result<Vec<u32>, Out
 // How often the strips are divided into halves that are joined at once: there are up to 64 such groups.
 const FORKS: u32 = 6;
 
-/// Joins all strips of a cut, whose links lie one after the other.
+/// Joins all strips of a cut, whose links lie one after the other. `skips` is lent to `join_group`.
 pub fn join_cut<R: Threads + Sync>(
     rt: &R,
     links: &mut [u32],
+    skips: &mut [u32],
     plane: &Plane,
     connect: Connect,
     cut: &[u32],
@@ -55,5 +56,15 @@ pub fn join_cut<R: Threads + Sync>(
 {
     // for its clauses alone: how many pixels a plane has
     let _shape = plane.shape();
-    join_group(rt, links, plane, connect, 0, &cut[1..], FORKS, &OpenGate);
+    join_group(
+        rt,
+        links,
+        skips,
+        plane,
+        connect,
+        0,
+        &cut[1..],
+        FORKS,
+        &OpenGate,
+    );
 }

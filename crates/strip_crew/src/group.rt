@@ -6,10 +6,10 @@ ghost use Rattle.comp_tree.specs.Joined.{Or, Has};
 ghost use Rattle.comp_tree.specs.Forest.{IsForest, IsLink, StandsFor, JoinSame};
 ghost use Rattle.tree_join.specs.Boundary.{row_start, IsBoundary};
 ghost use Rattle.strip_crew.specs.Boundaries.{AreRows, AreApart, IsRowsPair};
-ghost use Rattle.strip_crew.specs.Halves.{IsGroupOf, IsJoinedGroupOf};
+ghost use Rattle.strip_crew.specs.Halves.{IsGroupOf, IsJoinedGroupOf, AreGroupSkips, AreSkipsOfGroup};
 
 use crate::gate::Gate;
-use comp_tree::{Connect, Plane};
+use comp_tree::{Connect, NONE, Plane};
 use costs::Steps;
 use std::marker::Brand;
 use std::sync::ledger::{Blank, Ledger};
@@ -21,6 +21,7 @@ fn join_boundary_by<L: Ledger, M: Ledger>(
     moves: Blank,
     reads: Blank,
     parents: &mut [u32],
+    skips: &mut [u32],
     plane: &Plane,
     connect: Connect,
     first_row: u32,
@@ -33,39 +34,50 @@ fn join_boundary_by<L: Ledger, M: Ledger>(
     requires inside { row_start plane.now (row + 1)
         ≤ row_start plane.now first_row + length parents.old }
     requires forest { IsForest plane.now.values (row_start plane.now first_row) parents.old }
+    requires skips { AreGroupSkips plane.now first_row parents.old skips.old }
     ensures forest { IsForest plane.now.values (row_start plane.now first_row) parents.new }
     ensures joined { JoinSame plane.now.values (row_start plane.now first_row) (length parents.old)
         (IsLink (row_start plane.now first_row) parents.new)
         (Or (IsLink (row_start plane.now first_row) parents.old)
         (IsBoundary plane.now.values plane.now.shape.width connect row)) }
+    ensures skips { AreGroupSkips plane.now first_row parents.new skips.new }
+    ensures same_places { length skips.new ≡ length skips.old }
 {
     let mut moves = Steps::<L>::start(moves);
     let mut reads = Steps::<M>::start(reads);
     join_row(
-        parents, plane, connect, first_row, row, &mut moves, &mut reads,
+        parents, skips, plane, connect, first_row, row, &mut moves, &mut reads,
     );
 }
 
-// Joins the links at the boundary above `row`.
-fn join_boundary(parents: &mut [u32], plane: &Plane, connect: Connect, first_row: u32, row: u32)
-    requires rows { row_start plane.now first_row + length parents.old ≤ length plane.now.values }
-    requires below { first_row < row }
-    requires inside { row_start plane.now (row + 1)
-        ≤ row_start plane.now first_row + length parents.old }
-    requires forest { IsForest plane.now.values (row_start plane.now first_row) parents.old }
-    ensures forest { IsForest plane.now.values (row_start plane.now first_row) parents.new }
-    ensures joined { JoinSame plane.now.values (row_start plane.now first_row) (length parents.old)
-        (IsLink (row_start plane.now first_row) parents.new)
-        (Or (IsLink (row_start plane.now first_row) parents.old)
-        (IsBoundary plane.now.values plane.now.shape.width connect row)) }
+// Joins the links of a group at the boundary above `row`.
+fn join_boundary(group: &Group<'_>, parents: &mut [u32], skips: &mut [u32], row: u32)
+    requires rows { row_start group.now.plane.now group.now.first_row + length parents.old
+        ≤ length group.now.plane.now.values }
+    requires below { group.now.first_row < row }
+    requires inside { row_start group.now.plane.now (row + 1)
+        ≤ row_start group.now.plane.now group.now.first_row + length parents.old }
+    requires forest { IsForest group.now.plane.now.values
+        (row_start group.now.plane.now group.now.first_row) parents.old }
+    requires skips { AreSkipsOfGroup group.now parents.old skips.old }
+    ensures forest { IsForest group.now.plane.now.values
+        (row_start group.now.plane.now group.now.first_row) parents.new }
+    ensures joined { JoinSame group.now.plane.now.values
+        (row_start group.now.plane.now group.now.first_row) (length parents.old)
+        (IsLink (row_start group.now.plane.now group.now.first_row) parents.new)
+        (Or (IsLink (row_start group.now.plane.now group.now.first_row) parents.old)
+        (IsBoundary group.now.plane.now.values group.now.plane.now.shape.width group.now.connect row)) }
+    ensures skips { AreSkipsOfGroup group.now parents.new skips.new }
+    ensures same_places { length skips.new ≡ length skips.old }
 {
     join_boundary_by::<Brand, Brand>(
         Blank::new(1),
         Blank::new(1),
         parents,
-        plane,
-        connect,
-        first_row,
+        skips,
+        group.plane,
+        group.connect,
+        group.first_row,
         row,
     );
 }
@@ -96,19 +108,24 @@ struct Group<'a> {
     forks: u32,
 }
 
-// Joins the strips of a group. The links come last, so that a closure reads all else before it lends them.
+// Joins the strips of a group, and leaves skips that are true of its links, whatever they were before. Links and skips come
+// last, so that a closure reads all else before it lends them.
 #[cycle(halves)]
 fn join_strips<R: Threads + Sync, J: Gate>(
     rt: &R,
     joins: &J,
     group: &Group<'_>,
     parents: &mut [u32],
+    skips: &mut [u32],
 )
     requires { IsGroupOf group.now parents.old }
-    ensures { IsJoinedGroupOf group.now parents.old parents.new }
+    ensures joined { IsJoinedGroupOf group.now parents.old parents.new }
+    ensures skips { AreSkipsOfGroup group.now parents.new skips.new }
+    ensures same_places { length skips.new ≡ length skips.old }
 {
     let rows = group.rows;
     if rows.is_empty() {
+        skips.fill(NONE);
         return;
     }
     let middle = rows.len() / 2;
@@ -128,10 +145,23 @@ fn join_strips<R: Threads + Sync, J: Gate>(
         rows: &rows[middle + 1..],
         forks: forks.saturating_sub(1),
     };
-    let (above, below) = parents.split_at_mut(pixels_between(group.plane, group.first_row, row));
-    join_halves(rt, joins, forks > 0, &first, &second, above, below);
+    let pixels = pixels_between(group.plane, group.first_row, row);
+    let places = pixels.min(skips.len());
+    let (above, below) = parents.split_at_mut(pixels);
+    let (skips_above, skips_below) = skips.split_at_mut(places);
+    join_halves(
+        rt,
+        joins,
+        forks > 0,
+        &first,
+        &second,
+        above,
+        below,
+        skips_above,
+        skips_below,
+    );
     joins.enter(row);
-    join_boundary(parents, group.plane, group.connect, group.first_row, row);
+    join_boundary(group, parents, skips, row);
 }
 
 // Joins the strips of two neighbouring groups, one after the other or both at once. A function of its own, so that what the
@@ -145,25 +175,35 @@ fn join_halves<R: Threads + Sync, J: Gate>(
     second: &Group<'_>,
     above: &mut [u32],
     below: &mut [u32],
+    skips_above: &mut [u32],
+    skips_below: &mut [u32],
 )
     requires above { IsGroupOf first.now above.old }
     requires below { IsGroupOf second.now below.old }
     ensures above { IsJoinedGroupOf first.now above.old above.new }
     ensures below { IsJoinedGroupOf second.now below.old below.new }
+    ensures skips_above { AreSkipsOfGroup first.now above.new skips_above.new }
+    ensures skips_below { AreSkipsOfGroup second.now below.new skips_below.new }
+    ensures same_places { (length skips_above.new ≡ length skips_above.old)
+        × (length skips_below.new ≡ length skips_below.old) }
 {
     if !at_once {
-        join_strips(rt, joins, first, above);
-        join_strips(rt, joins, second, below);
+        join_strips(rt, joins, first, above, skips_above);
+        join_strips(rt, joins, second, below, skips_below);
         return;
     }
     let mut join_above = ||
         requires { IsSync R.row × IsSync J.row × IsGroupOf first.now above.now }
-        ensures { IsJoinedGroupOf first.entry.now above.entry.now above.exit.now }
-    { join_strips(rt, joins, first, above) };
+        ensures { IsJoinedGroupOf first.entry.now above.entry.now above.exit.now
+            × AreSkipsOfGroup first.entry.now above.exit.now skips_above.exit.now
+            × (length skips_above.exit.now ≡ length skips_above.entry.now) }
+    { join_strips(rt, joins, first, above, skips_above) };
     let mut join_below = ||
         requires { IsSync R.row × IsSync J.row × IsGroupOf second.now below.now }
-        ensures { IsJoinedGroupOf second.entry.now below.entry.now below.exit.now }
-    { join_strips(rt, joins, second, below) };
+        ensures { IsJoinedGroupOf second.entry.now below.entry.now below.exit.now
+            × AreSkipsOfGroup second.entry.now below.exit.now skips_below.exit.now
+            × (length skips_below.exit.now ≡ length skips_below.entry.now) }
+    { join_strips(rt, joins, second, below, skips_below) };
     join_mut(rt, &mut join_above, &mut join_below);
 }
 
@@ -174,9 +214,13 @@ fn join_halves<R: Threads + Sync, J: Gate>(
 /// group: both halves are joined first, each with its own part of the links, and then the middle row by `join_row`, after
 /// the gate was told of it. Where `forks` is above 0 and each half has a row, both halves are joined at once, in two threads
 /// where one more can be made, each with one fork fewer; else one after the other. It takes no memory.
+///
+/// `skips` lends `join_row` its places: one for each pixel is enough. Fewer do too, and what they hold before makes no
+/// difference.
 pub fn join_group<R: Threads + Sync, J: Gate>(
     rt: &R,
     parents: &mut [u32],
+    skips: &mut [u32],
     plane: &Plane,
     connect: Connect,
     first_row: u32,
@@ -198,6 +242,7 @@ pub fn join_group<R: Threads + Sync, J: Gate>(
         → StandsFor plane.now.values (row_start plane.now first_row) parents.old (Has E)
         → StandsFor plane.now.values (row_start plane.now first_row) parents.new
         (Or (Has E) (IsRowsPair plane.now.values plane.now.shape.width connect rows.now)) }
+    ensures same_places { length skips.new ≡ length skips.old }
 {
     // for its clauses alone: how many pixels a plane has
     let _shape = plane.shape();
@@ -208,5 +253,5 @@ pub fn join_group<R: Threads + Sync, J: Gate>(
         rows,
         forks,
     };
-    join_strips(rt, joins, &group, parents);
+    join_strips(rt, joins, &group, parents, skips);
 }

@@ -299,6 +299,7 @@ fn join_pixels<R: Threads + Sync + Abort, J: Gate>(
     plane: &Plane,
     rows: &[u32],
     links: &mut [u32],
+    skips: &mut [u32],
     forks: u32,
     joins: &J,
 )
@@ -309,7 +310,17 @@ fn join_pixels<R: Threads + Sync + Abort, J: Gate>(
     assert!(rt; shape.width == 1);
     assert!(rt; shape.height as usize == links.len());
     assert!(rt; is_forest(plane, 0, links));
-    join_group(rt, links, plane, Connect::Four, 0, rows, forks, joins);
+    join_group(
+        rt,
+        links,
+        skips,
+        plane,
+        Connect::Four,
+        0,
+        rows,
+        forks,
+        joins,
+    );
 }
 
 fn join_column<R: Threads + Sync + Abort, J: Gate>(
@@ -318,6 +329,7 @@ fn join_column<R: Threads + Sync + Abort, J: Gate>(
     column: &[u8],
     rows: &[u32],
     links: &mut [u32],
+    skips: &mut [u32],
     forks: u32,
     joins: &J,
 ) -> Result<(), Fail>
@@ -325,7 +337,7 @@ fn join_column<R: Threads + Sync + Abort, J: Gate>(
     requires links { links.old ≡ replicate (length rows.now + 1) 4294967295 }
 {
     let plane = plane_of(alloc, 1, column)?;
-    join_pixels(rt, &plane, rows, links, forks, joins);
+    join_pixels(rt, &plane, rows, links, skips, forks, joins);
     Ok(())
 }
 
@@ -333,7 +345,16 @@ fn join_column<R: Threads + Sync + Abort, J: Gate>(
 fn two_halves_are_joined_at_once(rt: HostRuntime) -> Result<(), Fail> {
     let gate = Meeting::of(1, 3);
     let mut links = [NONE; 4];
-    join_column(&rt, rt.alloc(), b"0123", &[1, 2, 3], &mut links, 1, &gate)?;
+    join_column(
+        &rt,
+        rt.alloc(),
+        b"0123",
+        &[1, 2, 3],
+        &mut links,
+        &mut [0; 4],
+        1,
+        &gate,
+    )?;
     assert_eq!(rt; links, [NONE, 0, 1, 2]);
     assert!(rt; gate.met());
     Ok(())
@@ -348,10 +369,43 @@ fn without_forks_all_rows_are_joined(rt: HostRuntime) -> Result<(), Fail> {
         b"0123",
         &[1, 2, 3],
         &mut links,
+        &mut [0; 4],
         0,
         &OpenGate,
     )?;
     assert_eq!(rt; links, [NONE, 0, 1, 2]);
+    Ok(())
+}
+
+// The links of a column of three pixels, joined with so many places for skips, each of which held pixel 0 before.
+fn links_over_old_skips<R: Threads + Sync + Abort>(
+    rt: &R,
+    alloc: Global,
+    places: usize,
+) -> Result<[u32; 3], Fail> {
+    let mut links = [NONE; 3];
+    let mut skips = [0; 5];
+    join_column(
+        rt,
+        alloc,
+        b"539",
+        &[1, 2],
+        &mut links,
+        &mut skips[..places.min(5)],
+        0,
+        &OpenGate,
+    )?;
+    Ok(links)
+}
+
+#[test]
+fn links_are_the_same_whatever_the_skips_were(rt: HostRuntime) -> Result<(), Fail> {
+    for places in 0..6 {
+        assert_eq!(rt;
+            links_over_old_skips(&rt, rt.alloc(), places)?,
+            [1, NONE, 1]
+        );
+    }
     Ok(())
 }
 
@@ -393,6 +447,7 @@ fn one_fork_makes_two_groups(rt: HostRuntime) -> Result<(), Fail> {
         b"01234567",
         &[1, 2, 3, 4, 5, 6, 7],
         &mut links,
+        &mut [0; 8],
         1,
         &gate,
     )?;

@@ -6,6 +6,6 @@ use Rattle.strip_crew.proofs.group.join_group.Goals as goal
 
 pub returns-clause-stands : goal.returns-clause-stands
 returns-clause-stands g c = let plane = c.args.plane.now in let joined =
-    c.join_strips.ensures in λ E s. stands_more plane.values (c.args.first_row * plane.shape.width) c.args.parents.now c.join_strips.new.parents (Has E)
+    c.join_strips.ensures.joined in λ E s. stands_more plane.values (c.args.first_row * plane.shape.width) c.args.parents.now c.join_strips.new.parents (Has E)
     (IsRowsPair plane.values plane.shape.width c.args.connect c.args.rows.now)
     (omega arith) joined.same_length c.requires.forest joined.forest joined.joins s
