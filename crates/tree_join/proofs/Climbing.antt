@@ -1,16 +1,16 @@
 -- Skips over ways that were joined before, and the climb by them.
-use Rattle.std.proofs.Common.{◌≡◌, ℕ, ◌+◌, ◌-◌, ◌<◌, ◌≤◌, List, length, set, get_or, replicate, Option, Some, None, ℤ, ◌⊎◌, inl, inr, refl, sym, ◌∙◌, subst}
+use Rattle.std.proofs.Common.{◌≡◌, ℕ, ◌+◌, ◌-◌, ◌<◌, ◌≤◌, List, length, set, get_or, Option, Some, None, ℤ, inl, inr, refl, sym, ◌∙◌, subst}
 use Rattle.std.proofs.Common.{⊎_elim, arith}
 use Rattle.std.specs.Prelude.{unwrap_or, pos}
 use Rattle.std.proofs.lemmas.Bool.{cases_eq, true≢false}
-use Rattle.std.proofs.lemmas.List.{get_or-set_same, get_or-set_other, length-set, get_or-replicate, length-replicate}
+use Rattle.std.proofs.lemmas.List.{get_or-set_same, get_or-set_other, length-set}
 use Rattle.std.proofs.lemmas.Grind.{get_or_default_zero}
 use Rattle.comp_tree.specs.Joined.{Joined, Or, Only}
 use Rattle.comp_tree.specs.EarlierCounts.{earlier_count}
 use Rattle.comp_tree.specs.Forest.{no_node, value_at, ReachesLevel, LiesInStretch, IsHigh, ComesEarlier, link_of, IsLink, IsForest, JoinSame}
 use Rattle.comp_tree.specs.Defined.{HasValue}
-use Rattle.tree_join.specs.Skips.{IsPixel, IsSkip, AreSkips, IsPutDown, IsLeft, IsNoted}
-use Rattle.tree_join.specs.Walks.{AreLike, IsWalk, IsUp}
+use Rattle.tree_join.specs.Skips.{IsPixel, IsSkip, AreTrueSkips}
+use Rattle.tree_join.specs.Walks.{AreLike, IsSkipAt, IsWalk, IsUp}
 use Rattle.tree_join.proofs.Shorter.{at_least_value}
 use Rattle.comp_tree.proofs.Exported.{int_le_refl, joined_wider, joined_trans, joined_sym, joined_left, joined_pair, joined_pairs, joined_within}
 use Rattle.comp_tree.proofs.Exported.{joined_first, joined_second, at_only, at_least_not_before, before_defined, before_other}
@@ -49,55 +49,46 @@ module _ (values : List (Option ℤ)) (first count : ℕ) where
   own_high : (y : ℕ) → IsPixel values first count y → IsHigh values first count (unwrap_or (value_at values y) (pos 0)) y
   own_high y p = record { within = p.within; value = own_value (value_at values y) p.value }
 
-  -- ---- tables
+  -- ---- lists of skips
 
-  pub skips_more : (E F G : ℕ → ℕ → Type 0) (from to : List ℕ) → JoinSame values first count F (Or E G) → AreSkips values first count E from to
-      → AreSkips values first count F from to
-  skips_more E F G from to s t = record {
-    same_length = t.same_length;
-    skips = λ i l. ⊎_elim (λ (e : get_or from i 0 ≡ no_node). inl e)
-        (λ (k : IsSkip values first count E (get_or from i 0) (get_or to i 0)). inr (skip_more E F G (get_or from i 0) (get_or to i 0) s k)) (t.skips i l);
-  }
+  pub true_skips_more : (E F G : ℕ → ℕ → Type 0) (skips : List ℕ) → JoinSame values first count F (Or E G) → AreTrueSkips values first count E skips
+      → AreTrueSkips values first count F skips
+  true_skips_more E F G skips s t = λ i l. ⊎_elim (λ (e : get_or skips i 0 ≡ no_node). inl e)
+      (λ (k : IsSkip values first count E (first + i) (get_or skips i 0)). inr (skip_more E F G (first + i) (get_or skips i 0) s k)) (t i l)
 
-  pub skips_same : (E F : ℕ → ℕ → Type 0) (from to : List ℕ) → JoinSame values first count F E → AreSkips values first count E from to
-      → AreSkips values first count F from to
-  skips_same E F from to s t = record {
-    same_length = t.same_length;
-    skips = λ i l. ⊎_elim (λ (e : get_or from i 0 ≡ no_node). inl e)
-        (λ (k : IsSkip values first count E (get_or from i 0) (get_or to i 0)). inr (skip_same E F (get_or from i 0) (get_or to i 0) s k)) (t.skips i l);
-  }
+  pub true_skips_same : (E F : ℕ → ℕ → Type 0) (skips : List ℕ) → JoinSame values first count F E → AreTrueSkips values first count E skips
+      → AreTrueSkips values first count F skips
+  true_skips_same E F skips s t = λ i l. ⊎_elim (λ (e : get_or skips i 0 ≡ no_node). inl e)
+      (λ (k : IsSkip values first count E (first + i) (get_or skips i 0)). inr (skip_same E F (first + i) (get_or skips i 0) s k)) (t i l)
 
-  pub skips_none : (E : ℕ → ℕ → Type 0) (from to : List ℕ) → length to ≡ length from → ((i : ℕ) → i < length from → get_or from i 0 ≡ no_node)
-      → AreSkips values first count E from to
-  skips_none E from to e b = record { same_length = e; skips = λ i l. inl (b i l) }
+  -- one more skip is noted, if its pixel has a place
+  pub true_skips_set : (E : ℕ → ℕ → Type 0) (skips : List ℕ) (x y : ℕ) → first ≤ x → IsSkip values first count E x y
+      → AreTrueSkips values first count E skips → AreTrueSkips values first count E (set skips (x - first) y)
+  true_skips_set E skips x y low k t = λ i m.
+      let l : i < length skips = subst (λ n. i < n) (length-set skips (x - first) y) m in
+      ⊎_elim
+      (λ (e : i ≡ x - first).
+      let at : get_or (set skips (x - first) y) i 0 ≡ y = subst (λ j. get_or (set skips (x - first) y) j 0 ≡ y) (sym e)
+      (get_or-set_same skips (x - first) y 0 (subst (λ j. j < length skips) e l)) in
+      let from : first + i ≡ x = omega arith in
+      inr (subst (λ v. IsSkip values first count E (first + i) v) (sym at) (subst (λ u. IsSkip values first count E u y) (sym from) k)))
+      (λ (ne : i ≡ x - first → ⊥).
+      let at : get_or (set skips (x - first) y) i 0 ≡ get_or skips i 0 = get_or-set_other skips (x - first) i y 0 ne in
+      ⊎_elim
+      (λ (e : get_or skips i 0 ≡ no_node). inl (at ∙ e))
+      (λ (o : IsSkip values first count E (first + i) (get_or skips i 0)). inr (subst (λ v. IsSkip values first count E (first + i) v) (sym at) o))
+      (t i l))
+      (cases_eq i (x - first))
 
-  -- one more skip is put down
-  pub skips_set : (E : ℕ → ℕ → Type 0) (from to : List ℕ) (place x y : ℕ) → place < length from → IsSkip values first count E x y
-      → AreSkips values first count E from to → AreSkips values first count E (set from place x) (set to place y)
-  skips_set E from to place x y l k t = record {
-    same_length = length-set to place y ∙ t.same_length ∙ sym (length-set from place x);
-    skips = λ i m. ⊎_elim
-        (λ (e : i ≡ place). inr (subst (λ j. IsSkip values first count E (get_or (set from place x) j 0) (get_or (set to place y) j 0)) (sym e)
-        (subst (λ u. IsSkip values first count E u (get_or (set to place y) place 0)) (sym (get_or-set_same from place x 0 l))
-        (subst (λ v. IsSkip values first count E x v) (sym (get_or-set_same to place y 0 (subst (λ n. place < n) (sym t.same_length) l))) k))))
-        (λ (ne : i ≡ place → ⊥). ⊎_elim
-        (λ (e : get_or from i 0 ≡ no_node). inl (get_or-set_other from place i x 0 ne ∙ e))
-        (λ (o : IsSkip values first count E (get_or from i 0) (get_or to i 0)). inr
-        (subst (λ u. IsSkip values first count E u (get_or (set to place y) i 0)) (sym (get_or-set_other from place i x 0 ne))
-        (subst (λ v. IsSkip values first count E (get_or from i 0) v) (sym (get_or-set_other to place i y 0 ne)) o)))
-        (t.skips i (subst (λ n. i < n) (length-set from place x) m)))
-        (cases_eq i place);
-  }
-
-  -- a skip that was put down for a pixel
-  pub skip_told : (E : ℕ → ℕ → Type 0) (from to : List ℕ) (x y : ℕ) → AreSkips values first count E from to → first + count ≤ no_node
-      → IsPixel values first count x
-      → IsPutDown from to x y → IsSkip values first count E x y
-  skip_told E from to x y t small p d = subst (IsSkip values first count E x) d.to_is
-      (subst (λ u. IsSkip values first count E u (get_or to d.place 0)) d.from_is (⊎_elim
-      (λ (n : get_or from d.place 0 ≡ no_node). absurd (let h : x < first + count = p.within.high in let a : x ≡ no_node = sym d.from_is ∙ n in omega arith))
-      (λ (k : IsSkip values first count E (get_or from d.place 0) (get_or to d.place 0)). k)
-      (t.skips d.place d.inside)))
+  -- a skip that is told at a pixel's place
+  pub skip_told : (E : ℕ → ℕ → Type 0) (skips : List ℕ) (x y : ℕ) → first ≤ x → AreTrueSkips values first count E skips → IsSkipAt skips (x - first) y
+      → IsSkip values first count E x y
+  skip_told E skips x y low t d =
+      let from : first + (x - first) ≡ x = omega arith in
+      subst (λ u. IsSkip values first count E u y) from (subst (λ v. IsSkip values first count E (first + (x - first)) v) d.at (⊎_elim
+      (λ (n : get_or skips (x - first) 0 ≡ no_node). absurd (d.some (sym d.at ∙ n)))
+      (λ (k : IsSkip values first count E (first + (x - first)) (get_or skips (x - first) 0)). k)
+      (t (x - first) d.inside)))
 
   -- A skip that stands on a pair too is true without it, where it leads higher than the pair's earlier pixel: there this pixel
   -- isn't high, so the pair adds nothing, and at lower levels no less is joined.
@@ -204,54 +195,33 @@ module _ (values : List (Option ℤ)) (first : ℕ) (links : List ℕ) (forest :
       (link_earlier values first links links forest small refl same c own_skip.pixel ne) in
       skip_on values first (length links) (IsLink first links) a c d early own_skip on
 
--- What a climb from p keeps: start are the links at its start, and p and b are still to be joined.
-pub record IsClimbing (values : List (Option ℤ)) (first : ℕ) (start links from to : List ℕ) (p b near far at : ℕ) : Type 0 where
+-- What a climb from p keeps: start are the links at its start, and p and b are still to be joined. The pixel before at is p, or the one passed last.
+pub record IsClimbing (values : List (Option ℤ)) (first : ℕ) (start links skips : List ℕ) (p b before at : ℕ) : Type 0 where
   pub same_length : length links ≡ length start
   pub like : AreLike values first start links
   pub here : IsSkip values first (length start) (IsLink first start) p at
-  pub near_skip : IsSkip values first (length start) (IsLink first start) near at
-  pub far_skip : IsSkip values first (length start) (IsLink first start) far at
-  pub walk : IsWalk values first start from to p b
+  pub passed : IsPixel values first (length start) before
+  pub step : IsSkip values first (length start) (IsLink first start) before at
+  pub walk : IsWalk values first start skips p b
   pub late : ComesEarlier values at b → ⊥
 
--- from the last mark, or from a pixel that is one now
-mark_skip : (values : List (Option ℤ)) (first count : ℕ) (E : ℕ → ℕ → Type 0) (before at mark : ℕ) → IsSkip values first count E before at
-    → (mark ≡ before) ⊎ (mark ≡ at) → IsSkip values first count E mark at
-mark_skip values first count E before at mark k m = ⊎_elim
-    (λ (e : mark ≡ before). subst (λ x. IsSkip values first count E x at) (sym e) k)
-    (λ (e : mark ≡ at). subst (λ x. IsSkip values first count E x at) (sym e) (skip_none values first count E at k.pixel))
-    m
-
--- the skip from the last mark is put down, or not
-noted : (values : List (Option ℤ)) (first count : ℕ) (E : ℕ → ℕ → Type 0) (from to new_from new_to : List ℕ) (before at : ℕ)
-    → IsSkip values first count E before at
-    → IsLeft from to new_from new_to ⊎ IsNoted from to new_from new_to before at → AreSkips values first count E from to
-    → AreSkips values first count E new_from new_to
-noted values first count E from to new_from new_to before at k r t = ⊎_elim
-    (λ (o : IsLeft from to new_from new_to). subst (λ x. AreSkips values first count E x new_to) (sym o.from_same)
-    (subst (λ y. AreSkips values first count E from y) (sym o.to_same) t))
-    (λ (o : IsNoted from to new_from new_to before at). subst (λ x. AreSkips values first count E x new_to) (sym o.from_set)
-    (subst (λ y. AreSkips values first count E (set from o.place before) y) (sym o.to_set)
-    (skips_set values first count E from to o.place before at o.inside k t)))
-    r
-
 module _ (values : List (Option ℤ)) (first : ℕ) (start : List ℕ) (p b : ℕ) where
-  pub climb_none : (from to : List ℕ) → IsWalk values first start from to p b → IsClimbing values first start start from to p b p p p
-  climb_none from to w = record {
+  pub climb_none : (skips : List ℕ) → IsWalk values first start skips p b → IsClimbing values first start start skips p b p p
+  climb_none skips w = record {
     same_length = refl;
     like = record { forest = w.kept.forest; same = same_itself values first (length start) (IsLink first start) };
     here = skip_none values first (length start) (IsLink first start) p w.pair.one;
-    near_skip = skip_none values first (length start) (IsLink first start) p w.pair.one;
-    far_skip = skip_none values first (length start) (IsLink first start) p w.pair.one;
+    passed = w.pair.one;
+    step = skip_none values first (length start) (IsLink first start) p w.pair.one;
     walk = w;
     late = w.pair.late;
   }
 
   -- the walk of the pixel at hand and b
-  pub climb_on : (links from to : List ℕ) (at : ℕ) → length links ≡ length start → AreLike values first start links
+  pub climb_on : (links skips : List ℕ) (at : ℕ) → length links ≡ length start → AreLike values first start links
       → IsSkip values first (length start) (IsLink first start) p at
-      → (ComesEarlier values at b → ⊥) → IsWalk values first start from to p b → IsWalk values first links from to at b
-  climb_on links from to at e l k late w = record {
+      → (ComesEarlier values at b → ⊥) → IsWalk values first start skips p b → IsWalk values first links skips at b
+  climb_on links skips at e l k late w = record {
     kept = record {
       inside = subst (λ n. first + n ≤ length values) (sym e) w.kept.inside;
       small = w.kept.small;
@@ -262,18 +232,18 @@ module _ (values : List (Option ℤ)) (first : ℕ) (start : List ℕ) (p b : �
       other = subst (λ n. IsPixel values first n b) (sym e) w.pair.other;
       late = late;
     };
-    skips = subst (λ n. AreSkips values first n (Or (IsLink first links) (Only at b)) from to) (sym e)
-        (skips_same values first (length start) (Or (IsLink first start) (Only p b)) (Or (IsLink first links) (Only at b)) from to
+    hold = subst (λ n. AreTrueSkips values first n (Or (IsLink first links) (Only at b)) skips) (sym e)
+        (true_skips_same values first (length start) (Or (IsLink first start) (Only p b)) (Or (IsLink first links) (Only at b)) skips
         (same_trans values first (length start) (Or (IsLink first links) (Only at b)) (Or (IsLink first start) (Only at b)) (Or (IsLink first start) (Only p b))
         (same_or values first (length start) (IsLink first links) (IsLink first start) (Only at b) l.same)
         (pair_up values first (length start) (IsLink first start) p b at k late))
-        w.skips);
+        w.hold);
   }
 
-  module _ (links from to : List ℕ) (near far at : ℕ) (w : IsClimbing values first start links from to p b near far at) where
+  module _ (links skips : List ℕ) (before at : ℕ) (w : IsClimbing values first start links skips p b before at) where
     -- what holds of the links at hand
-    pub climb_walk : IsWalk values first links from to at b
-    climb_walk = climb_on links from to at w.same_length w.like w.here w.late w.walk
+    pub climb_walk : IsWalk values first links skips at b
+    climb_walk = climb_on links skips at w.same_length w.like w.here w.late w.walk
 
     pub climb_nearer : (new : List ℕ) (next : ℕ) → length new ≡ length links → IsUp values first links at b next
         → earlier_count values first (length new) next < earlier_count values first (length links) at
@@ -289,10 +259,10 @@ module _ (values : List (Option ℤ)) (first : ℕ) (start : List ℕ) (p b : �
       }
 
       -- the climb has come to its end
-      pub climb_ended : IsWalk values first new from to at b
-      climb_ended = climb_on new from to at (e ∙ w.same_length) climb_like w.here w.late w.walk
+      pub climb_ended : IsWalk values first new skips at b
+      climb_ended = climb_on new skips at (e ∙ w.same_length) climb_like w.here w.late w.walk
 
-      module _ (near_from near_to more_from more_to : List ℕ) (next more_near more_far : ℕ) (u : IsUp values first links at b next) where
+      module _ (next : ℕ) (u : IsUp values first links at b next) where
         up : IsSkip values first (length start) (IsLink first start) at next
         up = skip_same values first (length start) (IsLink first links) (IsLink first start) at next
             (same_sym values first (length start) (IsLink first links) (IsLink first start) w.like.same)
@@ -301,31 +271,30 @@ module _ (values : List (Option ℤ)) (first : ℕ) (start : List ℕ) (p b : �
         up_from : (x : ℕ) → IsSkip values first (length start) (IsLink first start) x at → IsSkip values first (length start) (IsLink first start) x next
         up_from x o = skip_on values first (length start) (IsLink first start) x at next u.earlier o up
 
-        -- what the links join, they do with a pair more
-        wide : (x : ℕ) → IsSkip values first (length start) (IsLink first start) x next
-            → IsSkip values first (length start) (Or (IsLink first start) (Only p b)) x next
-        wide x o = skip_more values first (length start) (IsLink first start) (Or (IsLink first start) (Only p b)) (Only p b) x next
-            (same_itself values first (length start) (Or (IsLink first start) (Only p b))) o
-
-        pub climb_more : (more_near ≡ near) ⊎ (more_near ≡ next) → IsLeft from to near_from near_to ⊎ IsNoted from to near_from near_to near next
-            → (more_far ≡ far) ⊎ (more_far ≡ next) → IsLeft near_from near_to more_from more_to ⊎ IsNoted near_from near_to more_from more_to far next
-            → IsClimbing values first start new more_from more_to p b more_near more_far next
-        climb_more m r n t = record {
+        -- one step more, with skips that are true of the links and the pair
+        more_by : (more : List ℕ) → AreTrueSkips values first (length start) (Or (IsLink first start) (Only p b)) more
+            → IsClimbing values first start new more p b at next
+        more_by more t = record {
           same_length = e ∙ w.same_length;
           like = climb_like;
           here = up_from p w.here;
-          near_skip = mark_skip values first (length start) (IsLink first start) near next more_near (up_from near w.near_skip) m;
-          far_skip = mark_skip values first (length start) (IsLink first start) far next more_far (up_from far w.far_skip) n;
-          walk = record {
-            kept = w.walk.kept;
-            pair = w.walk.pair;
-            skips = noted values first (length start) (Or (IsLink first start) (Only p b)) near_from near_to more_from more_to far next
-                (wide far (up_from far w.far_skip)) t
-                (noted values first (length start) (Or (IsLink first start) (Only p b)) from to near_from near_to near next
-                (wide near (up_from near w.near_skip)) r w.walk.skips);
-          };
+          passed = w.here.pixel;
+          step = up;
+          walk = record { kept = w.walk.kept; pair = w.walk.pair; hold = t };
           late = u.late;
         }
+
+        -- nothing is noted
+        pub climb_first : IsClimbing values first start new skips p b at next
+        climb_first = more_by skips w.walk.hold
+
+        -- the skip from the pixel before to the next one is noted: what the links join, they do with a pair more
+        pub climb_more : (more : List ℕ) → more ≡ set skips (before - first) next → IsClimbing values first start new more p b at next
+        climb_more more n = more_by more (subst (AreTrueSkips values first (length start) (Or (IsLink first start) (Only p b))) (sym n)
+            (true_skips_set values first (length start) (Or (IsLink first start) (Only p b)) skips before next w.passed.within.low
+            (skip_more values first (length start) (IsLink first start) (Or (IsLink first start) (Only p b)) (Only p b) before next
+            (same_itself values first (length start) (Or (IsLink first start) (Only p b))) (up_from before w.step))
+            w.walk.hold))
 
         pub climb_less : earlier_count values first (length start) next < earlier_count values first (length start) at
         climb_less = earlier_count_less values first (length start) at next up.pixel.within u.earlier
@@ -337,7 +306,3 @@ pub joined_turned : (values : List (Option ℤ)) (first : ℕ) (start new : List
 joined_turned values first start new p q j =
     same_trans values first (length start) (IsLink first new) (Or (IsLink first start) (Only q p)) (Or (IsLink first start) (Only p q)) j
     (same_turned values first (length start) (IsLink first start) q p)
-
--- a new table is empty
-pub blank_places : (n i : ℕ) → i < length (replicate n no_node) → get_or (replicate n no_node) i 0 ≡ no_node
-blank_places n i l = get_or-replicate n i no_node 0 (subst (λ m. i < m) (length-replicate n no_node) l)

@@ -1,8 +1,9 @@
-ghost use Rattle.std.specs.Prelude.{◌≡◌, ◌<◌};
+ghost use Rattle.std.specs.Prelude.{◌≡◌, ◌<◌, length};
+ghost use Rattle.comp_tree.specs.Forest.{IsLink};
+ghost use Rattle.tree_join.specs.Skips.{AreTrueSkips};
 
 use super::*;
 use crate::links::Links;
-use crate::skips::Reach;
 use crate::walk::{Rows, link_past};
 use comp_tree::{NONE, Shape, Tree, is_forest, plain_tree};
 use std::marker::Brand;
@@ -24,12 +25,14 @@ fn join_by<L: Ledger, M: Ledger>(
     one: Blank,
     other: Blank,
     parents: &mut [u32],
+    skips: &mut [u32],
     plane: &Plane,
     connect: Connect,
     rows: &[u32],
 ) -> bool
     requires one { (one.name ≡ L.name) × (one.parts ≡ L.parts) × (0 < one.parts) }
     requires other { (other.name ≡ M.name) × (other.parts ≡ M.parts) × (0 < other.parts) }
+    requires skips { AreTrueSkips plane.now.values 0 (length parents.old) (IsLink 0 parents.old) skips.old }
 {
     let mut moves = Steps::<L>::start(one);
     let mut reads = Steps::<M>::start(other);
@@ -42,14 +45,31 @@ fn join_by<L: Ledger, M: Ledger>(
         if row == 0 || row >= shape.height {
             return false;
         }
-        join_row(parents, plane, connect, 0, row, &mut moves, &mut reads);
+        join_row(
+            parents, skips, plane, connect, 0, row, &mut moves, &mut reads,
+        );
     }
     true
 }
 
-// Joins these rows, if the links are a forest.
-fn join(parents: &mut [u32], plane: &Plane, connect: Connect, rows: &[u32]) -> bool {
-    join_by::<Brand, Brand>(Blank::new(1), Blank::new(1), parents, plane, connect, rows)
+// Joins these rows, if the links are a forest. No skip is known before, and the list then holds those that are left.
+fn join(
+    parents: &mut [u32],
+    skips: &mut [u32],
+    plane: &Plane,
+    connect: Connect,
+    rows: &[u32],
+) -> bool {
+    skips.fill(NONE);
+    join_by::<Brand, Brand>(
+        Blank::new(1),
+        Blank::new(1),
+        parents,
+        skips,
+        plane,
+        connect,
+        rows,
+    )
 }
 
 // The last pixel of at least this value on the walk from `p` along the links.
@@ -218,7 +238,9 @@ fn joined_strips_have_the_plain_tree(rt: HostRuntime) {
             .expect(&rt, "memory")
             .expect(&rt, "a plane");
         let mut parents = case.links.to_vec(rt.alloc()).expect(&rt, "memory");
-        let joined = join(&mut parents, &plane, case.connect, case.rows);
+        // the larger planes have more pixels than there are places for skips
+        let mut skips = [NONE; 6];
+        let joined = join(&mut parents, &mut skips, &plane, case.connect, case.rows);
         assert!(rt; joined, "case {number}");
         let tree = plain_tree(rt.alloc(), &plane, case.connect).expect(&rt, "memory");
         for p in 0..shape.pixels() {
@@ -236,36 +258,62 @@ fn a_walk_goes_on_at_a_link_between_its_pixels(rt: HostRuntime) {
         .expect(&rt, "memory")
         .expect(&rt, "a plane");
     let mut parents = [NONE, 0, 3, NONE];
-    assert!(rt; join(&mut parents, &plane, Connect::Four, &[2]));
+    assert!(rt; join(&mut parents, &mut [NONE; 4], &plane, Connect::Four, &[2]));
     assert_eq!(rt; parents, [NONE, 2, 3, 0]);
 }
 
-fn skip_by<M: Ledger>(blank: Blank, skips: &Skips, reach: Reach, at: u32) -> Option<u32>
+fn skip_by<M: Ledger>(blank: Blank, skips: &Skips<'_>, place: usize) -> Option<u32>
     requires blank { (blank.name ≡ M.name) × (blank.parts ≡ M.parts) × (0 < blank.parts) }
 {
     let mut reads = Steps::<M>::start(blank);
-    skips.told(reach, at, &mut reads)
+    skips.told(place, &mut reads)
 }
 
-// The pixel that is put down for this one.
-fn skip_from(skips: &Skips, reach: Reach, at: u32) -> Option<u32> {
-    skip_by::<Brand>(Blank::new(1), skips, reach, at)
+// The skip that is told at this place.
+fn skip_from(skips: &Skips<'_>, place: usize) -> Option<u32> {
+    skip_by::<Brand>(Blank::new(1), skips, place)
 }
 
-// Pixel 0 is a mark of both reaches, and pixel 89 a near one.
 #[test]
-fn a_skip_leads_from_mark_to_mark(rt: HostRuntime) {
-    let mut skips = Skips::empty();
-    assert_eq!(rt; skips.pass(Reach::Near, 5, 7), 5);
-    assert_eq!(rt; skips.pass(Reach::Near, 5, 89), 89);
-    assert_eq!(rt; skip_from(&skips, Reach::Near, 5), None);
-    assert_eq!(rt; skips.pass(Reach::Near, 89, 0), 0);
-    assert_eq!(rt; skip_from(&skips, Reach::Near, 89), Some(0));
-    assert_eq!(rt; skip_from(&skips, Reach::Far, 89), None);
+fn a_skip_is_told_where_it_was_noted(rt: HostRuntime) {
+    let mut places = [NONE, 7, NONE];
+    let mut skips = Skips::over(&mut places);
+    skips.note(2, 5);
+    skips.note(3, 6);
+    assert_eq!(rt; skip_from(&skips, 0), None);
+    assert_eq!(rt; skip_from(&skips, 1), Some(7));
+    assert_eq!(rt; skip_from(&skips, 2), Some(5));
+    assert_eq!(rt; skip_from(&skips, 3), None);
 }
 
-// Two rows that rise to the right. Pixels 0 and 34 are near marks, and the walks from pixel 35 on come to the skip from one to
-// the other. From pixel 36 on it leads too low.
+// The upper row rises to the right. The walk from pixel 3 leaves the skips from 3 to 1 and from 2 to 0. The one from pixel 4
+// goes to 3 by its link, to 1 by the skip and on to 0, and leaves the skips from 4 to 1 and from 3 to 0.
+#[test]
+fn walks_leave_skips_and_take_them(rt: HostRuntime) {
+    let values = [
+        Some(5),
+        Some(6),
+        Some(7),
+        Some(8),
+        Some(9),
+        None,
+        None,
+        None,
+        Some(1),
+        Some(2),
+    ];
+    let mut links = [NONE, 0, 1, 2, 3, NONE, NONE, NONE, NONE, 8];
+    let shape = Shape::of(5, 2).expect(&rt, "a shape");
+    let plane = Plane::of(rt.alloc(), shape, &values)
+        .expect(&rt, "memory")
+        .expect(&rt, "a plane");
+    let mut skips = [NONE; 5];
+    assert!(rt; join(&mut links, &mut skips, &plane, Connect::Four, &[1]));
+    assert_eq!(rt; skips, [NONE, NONE, 0, 0, 1]);
+}
+
+// Two rows that rise to the right. The walks from the first 36 pixels leave skips to pixel 0. For those from pixel 36 on, whose
+// lower pixels have higher values, these lead too low.
 #[test]
 fn walks_skip_no_further_than_they_may(rt: HostRuntime) {
     let mut values = [Some(0); 82];
@@ -282,7 +330,7 @@ fn walks_skip_no_further_than_they_may(rt: HostRuntime) {
     let plane = Plane::of(rt.alloc(), shape, &values)
         .expect(&rt, "memory")
         .expect(&rt, "a plane");
-    assert!(rt; join(&mut links, &plane, Connect::Four, &[1]));
+    assert!(rt; join(&mut links, &mut [NONE; 82], &plane, Connect::Four, &[1]));
     let tree = plain_tree(rt.alloc(), &plane, Connect::Four).expect(&rt, "memory");
     for p in 0..shape.pixels() {
         let same = has_its_node(&values, &links, &tree, p);

@@ -10,7 +10,7 @@ ghost use Rattle.tree_join.specs.Moves.{IsEnded, IsMoved, IsLastAbove, IsSpent};
 ghost use Rattle.tree_join.specs.Walks.{AreLinks, AreLike, HaveTrueSkips, IsLaterPair, IsWalk, IsUp};
 
 use crate::links::Links;
-use crate::skips::{Reach, Skips};
+use crate::skips::Skips;
 use comp_tree::{NONE, Plane};
 use costs::Steps;
 use std::sync::ledger::Ledger;
@@ -57,27 +57,21 @@ pub(crate) fn link_past<M: Ledger>(
     Some(next)
 }
 
-// The skip of this reach from `at`, if one is kept that leads to an earlier pixel, and to one of a higher value than `b`:
-// then the links alone join what it leads to, though `at` and `b` are still to be joined. The links are named for this alone.
+// The skip from `at`, if one is known that leads to an earlier pixel, and to one of a higher value than `b`: then the links
+// alone join what it leads to, though `at` and `b` are still to be joined. The links are named for this alone.
 fn skip_up<M: Ledger>(
     _links: &Links<'_>,
     rows: &Rows<'_>,
-    skips: &Skips,
-    reach: Reach,
+    skips: &Skips<'_>,
     at: u32,
     b: u32,
     reads: &mut Steps<M>,
 ) -> Option<u32>
-    requires walk { IsWalk rows.now.plane.now.values rows.now.first _links.now.places.now skips.now.from skips.now.to at b }
+    requires walk { IsWalk rows.now.plane.now.values rows.now.first _links.now.places.now skips.now.places.now at b }
     ensures up { IfSome result (λ next. IsUp rows.now.plane.now.values rows.now.first _links.now.places.now at b next) }
-    ensures more { reads.old ≤ reads.new }
-    ensures some { IfSome result (λ next. reads.old + 1 ≤ reads.new) }
-    ensures reads { reads.new ≤ reads.old + 1 }
+    ensures read { reads.new ≡ reads.old + 1 }
 {
-    if !reach.has_mark(at) {
-        return None;
-    }
-    let Some(there) = skips.told(reach, at, reads) else {
+    let Some(there) = skips.told((at - rows.first) as usize, reads) else {
         return None;
     };
     if !rows.plane.is_earlier(there, at) || rows.plane.is_at_least(rows.plane.level(there), b) {
@@ -118,12 +112,12 @@ fn link_up<M: Ledger>(
 fn next_up<M: Ledger>(
     links: &mut Links<'_>,
     rows: &Rows<'_>,
-    skips: &Skips,
+    skips: &Skips<'_>,
     at: u32,
     b: u32,
     reads: &mut Steps<M>,
 ) -> Option<u32>
-    requires walk { IsWalk rows.now.plane.now.values rows.now.first links.old.places.now skips.now.from skips.now.to at b }
+    requires walk { IsWalk rows.now.plane.now.values rows.now.first links.old.places.now skips.now.places.now at b }
     ensures same_reference { links.new.places.ghost_name ≡ links.old.places.ghost_name }
     ensures same_length { length links.new.places.now ≡ length links.old.places.now }
     ensures like { AreLike rows.now.plane.now.values rows.now.first links.old.places.now links.new.places.now }
@@ -131,49 +125,50 @@ fn next_up<M: Ledger>(
         (IsLastAbove rows.now.plane.now.values rows.now.first links.new.places.now at b)
         (λ next. IsUp rows.now.plane.now.values rows.now.first links.old.places.now at b next) }
     ensures more { reads.old + 1 ≤ reads.new }
-    ensures reads { reads.new ≤ reads.old + 4 }
+    ensures reads { reads.new ≤ reads.old + 3 }
 {
-    if let Some(there) = skip_up(links, rows, skips, Reach::Far, at, b, reads) {
-        return Some(there);
-    }
-    if let Some(there) = skip_up(links, rows, skips, Reach::Near, at, b, reads) {
+    if let Some(there) = skip_up(links, rows, skips, at, b, reads) {
         return Some(there);
     }
     link_up(links, rows, at, b, reads)
 }
 
-// Climbs from `p` to the last pixel that is not earlier than `b`. The pair that is still to be joined climbs too.
+// Climbs from `p` to the last pixel that is not earlier than `b`. The pair that is still to be joined climbs too. Each pixel
+// that the climb passes gets the skip to the pixel two steps on, so that the next climb takes about half as many.
 fn climb<L: Ledger, M: Ledger>(
     links: &mut Links<'_>,
     rows: &Rows<'_>,
-    skips: &mut Skips,
+    skips: &mut Skips<'_>,
     p: u32,
     b: u32,
     moves: &mut Steps<L>,
     reads: &mut Steps<M>,
 ) -> u32
-    requires walk { IsWalk rows.now.plane.now.values rows.now.first links.old.places.now skips.old.from skips.old.to p b }
+    requires walk { IsWalk rows.now.plane.now.values rows.now.first links.old.places.now skips.old.places.now p b }
     ensures same_reference { links.new.places.ghost_name ≡ links.old.places.ghost_name }
     ensures same_length { length links.new.places.now ≡ length links.old.places.now }
+    ensures same_list { skips.new.places.ghost_name ≡ skips.old.places.ghost_name }
+    ensures same_places { length skips.new.places.now ≡ length skips.old.places.now }
     ensures like { AreLike rows.now.plane.now.values rows.now.first links.old.places.now links.new.places.now }
     ensures skip { IsSkip rows.now.plane.now.values rows.now.first (length links.old.places.now)
         (IsLink rows.now.first links.old.places.now) p result }
     ensures last { IsLastAbove rows.now.plane.now.values rows.now.first links.new.places.now result b }
-    ensures walk { IsWalk rows.now.plane.now.values rows.now.first links.new.places.now skips.new.from skips.new.to result b }
+    ensures walk { IsWalk rows.now.plane.now.values rows.now.first links.new.places.now skips.new.places.now result b }
     ensures later { moves.old ≤ moves.new }
     ensures cost { moves.new + earlier_count rows.now.plane.now.values rows.now.first (length links.old.places.now) result
         ≤ moves.old + earlier_count rows.now.plane.now.values rows.now.first (length links.old.places.now) p }
     ensures each { moves.new + reads.old ≤ moves.old + reads.new }
-    ensures reads { reads.new + 4 * earlier_count rows.now.plane.now.values rows.now.first (length links.old.places.now) result
-        ≤ reads.old + 4 * earlier_count rows.now.plane.now.values rows.now.first (length links.old.places.now) p + 4 }
+    ensures reads { reads.new + 3 * earlier_count rows.now.plane.now.values rows.now.first (length links.old.places.now) result
+        ≤ reads.old + 3 * earlier_count rows.now.plane.now.values rows.now.first (length links.old.places.now) p + 3 }
 {
+    let mut before = p;
     let mut at = p;
-    let mut near = p;
-    let mut far = p;
     while let Some(next) = next_up(links, rows, skips, at, b, reads) {
         moves.tick();
-        near = skips.pass(Reach::Near, near, next);
-        far = skips.pass(Reach::Far, far, next);
+        if before != at {
+            skips.note((before - rows.first) as usize, next);
+        }
+        before = at;
         at = next;
     }
     at
@@ -215,24 +210,26 @@ fn hang<M: Ledger>(
 fn turn<L: Ledger, M: Ledger>(
     links: &mut Links<'_>,
     rows: &Rows<'_>,
-    skips: &mut Skips,
+    skips: &mut Skips<'_>,
     a: u32,
     b: u32,
     moves: &mut Steps<L>,
     reads: &mut Steps<M>,
 ) -> Option<(u32, u32)>
-    requires walk { IsWalk rows.now.plane.now.values rows.now.first links.old.places.now skips.old.from skips.old.to a b }
+    requires walk { IsWalk rows.now.plane.now.values rows.now.first links.old.places.now skips.old.places.now a b }
     ensures same_reference { links.new.places.ghost_name ≡ links.old.places.ghost_name }
     ensures same_length { length links.new.places.now ≡ length links.old.places.now }
+    ensures same_list { skips.new.places.ghost_name ≡ skips.old.places.ghost_name }
+    ensures same_places { length skips.new.places.now ≡ length skips.old.places.now }
     ensures moved { MatchOption result
         (IsEnded rows.now.plane.now.values rows.now.first links.old.places.now links.new.places.now a b)
         (λ rest. IsMoved rows.now.plane.now.values rows.now.first links.old.places.now links.new.places.now a b rest) }
     ensures walk { MatchOption result
-        (HaveTrueSkips rows.now.plane.now.values rows.now.first links.new.places.now skips.new.from skips.new.to)
-        (λ rest. IsWalk rows.now.plane.now.values rows.now.first links.new.places.now skips.new.from skips.new.to rest.0 rest.1) }
+        (HaveTrueSkips rows.now.plane.now.values rows.now.first links.new.places.now skips.new.places.now)
+        (λ rest. IsWalk rows.now.plane.now.values rows.now.first links.new.places.now skips.new.places.now rest.0 rest.1) }
     ensures cost { IsSpent rows.now.plane.now.values rows.now.first (length links.old.places.now) a b 1 moves.old moves.new result }
     ensures each { moves.new + reads.old ≤ moves.old + reads.new }
-    ensures reads { IsSpent rows.now.plane.now.values rows.now.first (length links.old.places.now) a b 5 reads.old reads.new result }
+    ensures reads { IsSpent rows.now.plane.now.values rows.now.first (length links.old.places.now) a b 4 reads.old reads.new result }
 {
     let last = climb(links, rows, skips, a, b, moves, reads);
     if last == b {
@@ -247,23 +244,25 @@ fn turn<L: Ledger, M: Ledger>(
 fn join_later<L: Ledger, M: Ledger>(
     links: &mut Links<'_>,
     rows: &Rows<'_>,
-    skips: &mut Skips,
+    skips: &mut Skips<'_>,
     p: u32,
     q: u32,
     moves: &mut Steps<L>,
     reads: &mut Steps<M>,
 )
-    requires ready { HaveTrueSkips rows.now.plane.now.values rows.now.first links.old.places.now skips.old.from skips.old.to }
+    requires ready { HaveTrueSkips rows.now.plane.now.values rows.now.first links.old.places.now skips.old.places.now }
     requires pair { IsLaterPair rows.now.plane.now.values rows.now.first (length links.old.places.now) p q }
     ensures same_reference { links.new.places.ghost_name ≡ links.old.places.ghost_name }
     ensures same_length { length links.new.places.now ≡ length links.old.places.now }
-    ensures ready { HaveTrueSkips rows.now.plane.now.values rows.now.first links.new.places.now skips.new.from skips.new.to }
+    ensures same_list { skips.new.places.ghost_name ≡ skips.old.places.ghost_name }
+    ensures same_places { length skips.new.places.now ≡ length skips.old.places.now }
+    ensures ready { HaveTrueSkips rows.now.plane.now.values rows.now.first links.new.places.now skips.new.places.now }
     ensures joined { JoinSame rows.now.plane.now.values rows.now.first (length links.old.places.now)
         (IsLink rows.now.first links.new.places.now)
         (Or (IsLink rows.now.first links.old.places.now) (Only p q)) }
     ensures cost { moves.new ≤ moves.old + count_defined rows.now.plane.now.values rows.now.first (length links.old.places.now) }
     ensures each { moves.new + reads.old ≤ moves.old + reads.new }
-    ensures reads { reads.new ≤ reads.old + 5 * count_defined rows.now.plane.now.values rows.now.first (length links.old.places.now) }
+    ensures reads { reads.new ≤ reads.old + 4 * count_defined rows.now.plane.now.values rows.now.first (length links.old.places.now) }
 {
     let mut a = p;
     let mut b = q;
@@ -277,24 +276,26 @@ fn join_later<L: Ledger, M: Ledger>(
 pub(crate) fn join_pair<L: Ledger, M: Ledger>(
     links: &mut Links<'_>,
     rows: &Rows<'_>,
-    skips: &mut Skips,
+    skips: &mut Skips<'_>,
     p: u32,
     q: u32,
     moves: &mut Steps<L>,
     reads: &mut Steps<M>,
 )
-    requires ready { HaveTrueSkips rows.now.plane.now.values rows.now.first links.old.places.now skips.old.from skips.old.to }
+    requires ready { HaveTrueSkips rows.now.plane.now.values rows.now.first links.old.places.now skips.old.places.now }
     requires p_in { IsPixel rows.now.plane.now.values rows.now.first (length links.old.places.now) p }
     requires q_in { IsPixel rows.now.plane.now.values rows.now.first (length links.old.places.now) q }
     ensures same_reference { links.new.places.ghost_name ≡ links.old.places.ghost_name }
     ensures same_length { length links.new.places.now ≡ length links.old.places.now }
-    ensures ready { HaveTrueSkips rows.now.plane.now.values rows.now.first links.new.places.now skips.new.from skips.new.to }
+    ensures same_list { skips.new.places.ghost_name ≡ skips.old.places.ghost_name }
+    ensures same_places { length skips.new.places.now ≡ length skips.old.places.now }
+    ensures ready { HaveTrueSkips rows.now.plane.now.values rows.now.first links.new.places.now skips.new.places.now }
     ensures joined { JoinSame rows.now.plane.now.values rows.now.first (length links.old.places.now)
         (IsLink rows.now.first links.new.places.now)
         (Or (IsLink rows.now.first links.old.places.now) (Only p q)) }
     ensures cost { moves.new ≤ moves.old + count_defined rows.now.plane.now.values rows.now.first (length links.old.places.now) }
     ensures each { moves.new + reads.old ≤ moves.old + reads.new }
-    ensures reads { reads.new ≤ reads.old + 5 * count_defined rows.now.plane.now.values rows.now.first (length links.old.places.now) }
+    ensures reads { reads.new ≤ reads.old + 4 * count_defined rows.now.plane.now.values rows.now.first (length links.old.places.now) }
 {
     if rows.plane.is_earlier(p, q) {
         join_later(links, rows, skips, q, p, moves, reads);

@@ -1,4 +1,4 @@
-use Rattle.std.proofs.Common.{◌∙◌, length, sym, arith, w64, to_z, of_z, rules}
+use Rattle.std.proofs.Common.{◌∙◌, length, sym, w64, to_z, of_z, rules}
 use Rattle.std.proofs.lemmas.Bool.{true≢false}
 use Rattle.std.proofs.lemmas.Int.{to_z-of_z}
 use Rattle.std.specs.Prelude.{unwrap_or, pos}
@@ -21,8 +21,8 @@ returns-clause-up g c =
     let told : IsSkip c.args.rows.now.plane.now.values c.args.rows.now.first (length c.args._links.now.places.now)
     (Or (IsLink c.args.rows.now.first c.args._links.now.places.now) (Only c.args.at c.args.b)) c.args.at c.in-Some.there
     = skip_told c.args.rows.now.plane.now.values c.args.rows.now.first (length c.args._links.now.places.now)
-    (Or (IsLink c.args.rows.now.first c.args._links.now.places.now) (Only c.args.at c.args.b)) c.args.skips.now.from c.args.skips.now.to c.args.at _
-    c.requires.walk.skips (omega (arith, c.requires.walk.kept.inside, c.requires.walk.kept.small)) c.requires.walk.pair.one c.in-Some.ensures.told in
+    (Or (IsLink c.args.rows.now.first c.args._links.now.places.now) (Only c.args.at c.args.b)) c.args.skips.now.places.now c.args.at _
+    c.requires.walk.pair.one.within.low c.requires.walk.hold c.in-Some.ensures.told in
     record {
       skip = skip_alone c.args.rows.now.plane.now.values c.args.rows.now.first (length c.args._links.now.places.now)
           (IsLink c.args.rows.now.first c.args._links.now.places.now) c.args.at c.args.b c.args.at _ low told;

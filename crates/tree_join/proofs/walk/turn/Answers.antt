@@ -40,7 +40,7 @@ returns-clause-cost g c =
 pub returns-clause-reads : goal.returns-clause-reads
 returns-clause-reads g c =
     subst (λ n. IsSpent c.args.rows.now.plane.now.values c.args.rows.now.first
-    (length c.args.links.now.places.now) c.args.a c.args.b 5 c.args.reads.now n c.hang.result)
+    (length c.args.links.now.places.now) c.args.a c.args.b 4 c.args.reads.now n c.hang.result)
     (sym c.hang.ensures.read)
     (reads_moved c.args.rows.now.plane.now.values c.args.rows.now.first c.args.links.now.places.now
     c.climb-last.new.links.places.now c.args.a c.args.b c.climb-last.result
@@ -50,13 +50,12 @@ returns-clause-reads g c =
 
 pub returns-clause-walk : goal.returns-clause-walk
 returns-clause-walk g c =
-    walk_moved c.args.rows.now.plane.now.values c.args.rows.now.first c.climb-last.new.links.places.now c.hang.new.links.places.now c.climb-last.new.skips.from
-    c.climb-last.new.skips.to
+    walk_moved c.args.rows.now.plane.now.values c.args.rows.now.first c.climb-last.new.links.places.now c.hang.new.links.places.now c.climb-last.new.skips.places.now
     c.climb-last.result c.args.b
     c.hang.ensures.same_length c.climb-last.ensures.walk c.hang.ensures.forest c.hang.result c.hang.ensures.moved c.hang.ensures.pair
 
 pub returns-then-last-b-clause-walk : goal.returns-then-last-b-clause-walk
 returns-then-last-b-clause-walk g c =
-    walk_met c.args.rows.now.plane.now.values c.args.rows.now.first c.climb-last.new.links.places.now c.climb-last.new.skips.from c.climb-last.new.skips.to
+    walk_met c.args.rows.now.plane.now.values c.args.rows.now.first c.climb-last.new.links.places.now c.climb-last.new.skips.places.now
     c.climb-last.result c.args.b
     c.if-last-b.true c.climb-last.ensures.walk
