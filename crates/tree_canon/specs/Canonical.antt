@@ -1,6 +1,8 @@
 -- Bookkeeping: what canonical numbering reads off the links of a forest, which has one link for each pixel of a plane r.
-use Rattle.std.specs.Prelude.{◌≡◌, ℕ, ◌+◌, ◌-◌, ◌*◌, min, Bool, ◌&&◌, ◌||◌, ◌==◌, not, IsFalse, List, length, filter, slice_index_or, slice_get, Some}
+use Rattle.std.specs.Prelude.{◌≡◌, ℕ, ℤ, ◌+◌, ◌-◌, ◌*◌, min, Bool, ◌&&◌, ◌||◌, ◌==◌, not, IsFalse, List, length, filter, slice_index_or, slice_get, Some}
 use Rattle.std.specs.List.{range_with_len}
+use Rattle.std.specs.Ordering.{int_cmp, nat_cmp, ordering_then}
+use Rattle.std.specs.declared.cmp.Ordering.{Ordering}
 use Rattle.comp_tree.specs.declared.tree.NodeRow.{NodeRow}
 use Rattle.comp_tree.specs.Raster.{Raster, pixels, is_defined, is_at_least, level}
 use Rattle.comp_tree.specs.Components.{in_order, no_node}
@@ -40,3 +42,10 @@ loose_row r p = record { level = level r p; rep = p; parent = no_node }
 -- a row with its parent: the node that has the number of the link
 abbrev pub with_parent : List ℕ → List ℕ → NodeRow → NodeRow
 with_parent links numbers row = record { level = row.level; rep = row.rep; parent = node_number_at numbers (link_of 0 links row.rep) }
+
+-- what rows are sorted by: the level, and the pixel where levels are the same
+abbrev pub level_and_pixel : NodeRow → ℤ × ℕ
+level_and_pixel row = (row.level, row.rep)
+
+abbrev pub level_then_pixel : ℤ × ℕ → ℤ × ℕ → Ordering
+level_then_pixel x y = ordering_then (int_cmp x.0 y.0) (nat_cmp x.1 y.1)

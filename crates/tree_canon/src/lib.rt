@@ -29,7 +29,7 @@ use std::thread::Threads;
 /// The component tree of a plane, from a forest that stands for all its adjacencies under connectivity 4 or 8. The call isn't
 /// told which of the two, so the links decide the tree. It takes one pass over the pixels to find the nodes, one to number the
 /// pixels, and a few over the nodes. Where the nodes' levels span at most twice their number, a table puts the nodes in order, in
-/// linear time; elsewhere they are sorted.
+/// linear time; elsewhere they are sorted, where `parts` is more than 1 by as many threads as the machine has processors for.
 ///
 /// The nodes are looked for in at most `parts` bands of pixels, each in a thread of its own where one can be made; 0 counts as 1.
 /// A band has at least 65,536 pixels, but for the last, so a small plane has one band, which starts no thread.
@@ -57,7 +57,7 @@ pub fn canon<R: Threads + Sync>(
     let shape = plane.shape();
     let links = forest.parents();
     let pixels = find_canonical(rt, alloc, plane, links, parts)?;
-    let mut made = number_nodes(alloc, plane, links, &pixels)?;
+    let mut made = number_nodes(rt, alloc, plane, links, &pixels, parts)?;
     set_parents(links, &made.numbers, &pixels, &mut made.rows);
     Ok(Tree::of(shape, made.rows, made.numbers))
 }

@@ -12,6 +12,7 @@ use crate::rows::sorted_rows;
 use comp_tree::{NodeRow, Plane};
 use costs::OutOfMemory;
 use std::alloc::Global;
+use std::thread::Threads;
 
 // The rows of the nodes in their order, and the number of each pixel's node, `NONE` for an undefined pixel.
 #[derive(Drop)]
@@ -21,11 +22,13 @@ pub(crate) struct Numbered {
 }
 
 // The rows without the parents and the numbers, by sorting the canonical pixels.
-fn number_by_order(
+fn number_by_order<R: Threads + Sync>(
+    rt: &R,
     alloc: Global,
     plane: &Plane,
     links: &[u32],
     pixels: &[u32],
+    parts: u32,
 ) -> Result<Numbered, OutOfMemory>
     requires one_each { length links.now ≡ length plane.now.values }
     requires forest { IsForest plane.now.values 0 links.now }
@@ -34,18 +37,20 @@ fn number_by_order(
     ensures rows { IfOk result (λ made. made.rows.items ≡ map (loose_row plane.now) (canonical_pixels plane.now links.now)) }
     ensures numbers { IfOk result (λ made. IsNumbering plane.now links.now made.numbers.items) }
 {
-    let rows = sorted_rows(alloc, plane, pixels)?;
+    let rows = sorted_rows(rt, alloc, plane, pixels, parts)?;
     let numbers = number_pixels(alloc, plane, links, &rows)?;
     Ok(Numbered { rows, numbers })
 }
 
 // The rows without the parents and the numbers, from the canonical pixels: by counting where their levels lie close together, and
 // else by sorting.
-pub(crate) fn number_nodes(
+pub(crate) fn number_nodes<R: Threads + Sync>(
+    rt: &R,
     alloc: Global,
     plane: &Plane,
     links: &[u32],
     pixels: &[u32],
+    parts: u32,
 ) -> Result<Numbered, OutOfMemory>
     requires one_each { length links.now ≡ length plane.now.values }
     requires forest { IsForest plane.now.values 0 links.now }
@@ -58,5 +63,5 @@ pub(crate) fn number_nodes(
     if span.is_narrow(pixels.len()) {
         return number_by_counting(alloc, plane, links, pixels, span);
     }
-    number_by_order(alloc, plane, links, pixels)
+    number_by_order(rt, alloc, plane, links, pixels, parts)
 }

@@ -2,15 +2,18 @@
 //! level roots of Wilkinson et al. 2008).
 
 ghost use Rattle.std.specs.Prelude.{◌≡◌, ◌<◌, length, map, All, IfOk};
+ghost use Rattle.std.specs.List.Sorted.{IsPermutation, IsSortedByKey};
 ghost use Rattle.comp_tree.specs.Components.{in_order};
 ghost use Rattle.comp_tree.specs.Forest.{IsForest};
-ghost use Rattle.tree_canon.specs.Canonical.{is_canonical as is_canonical_in, loose_row, with_parent};
+ghost use Rattle.tree_canon.specs.Canonical.{is_canonical as is_canonical_in, loose_row, with_parent, level_and_pixel, level_then_pixel};
 ghost use Rattle.tree_canon.specs.Places.{ArePixelsFrom, AreNumberedBy};
 
 use crate::numbers::node_number_at;
 use comp_tree::{NONE, NodeRow, Plane};
 use costs::OutOfMemory;
+use rayon::prelude::*;
 use std::alloc::Global;
+use std::thread::Threads;
 
 // Whether a pixel is canonical. In a forest only a defined pixel has a link.
 #[inline]
@@ -52,17 +55,40 @@ fn rows_of(alloc: Global, plane: &Plane, pixels: &[u32]) -> Result<Vec<NodeRow>,
     Ok(rows)
 }
 
+// Sorts rows by level and pixel: by threads where `parts` is more than 1.
+fn sort_rows<R: Threads + Sync>(rt: &R, rows: &mut [NodeRow], parts: u32)
+    ensures permutation { IsPermutation rows.old rows.new }
+    ensures same_length { length rows.new ≡ length rows.old }
+    ensures sorted { IsSortedByKey level_and_pixel level_then_pixel rows.new }
+{
+    if parts > 1 {
+        sort_by_threads(rt, rows);
+    } else {
+        rows.sort_unstable_by_key(|row| (row.level, row.rep));
+    }
+}
+
+fn sort_by_threads<R: Threads + Sync>(rt: &R, rows: &mut [NodeRow])
+    ensures permutation { IsPermutation rows.old rows.new }
+    ensures same_length { length rows.new ≡ length rows.old }
+    ensures sorted { IsSortedByKey level_and_pixel level_then_pixel rows.new }
+{
+    par_sort_unstable_by_key(rt, rows, |row: &NodeRow| (row.level, row.rep));
+}
+
 // The rows of some pixels, sorted by level and pixel.
-pub(crate) fn sorted_rows(
+pub(crate) fn sorted_rows<R: Threads + Sync>(
+    rt: &R,
     alloc: Global,
     plane: &Plane,
     pixels: &[u32],
+    parts: u32,
 ) -> Result<Vec<NodeRow>, OutOfMemory>
     requires { ArePixelsFrom plane.now 0 pixels.now }
     ensures { IfOk result (λ rows. rows.items ≡ map (loose_row plane.now) (in_order plane.now pixels.now)) }
 {
     let mut rows = rows_of(alloc, plane, pixels)?;
-    rows.sort_unstable_by_key(|row| (row.level, row.rep));
+    sort_rows(rt, &mut rows, parts);
     Ok(rows)
 }
 

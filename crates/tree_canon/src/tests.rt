@@ -191,18 +191,19 @@ fn trees_from_links(rt: HostRuntime) {
     ];
     for (number, case) in cases.iter().enumerate() {
         for size in 1..=4 {
-            compare(&rt, rt.alloc(), number, case, size);
+            compare(&rt, rt.alloc(), number, case, size, size as u32);
         }
     }
 }
 
-// The canonical pixels in bands of `size` pixels, and the tree, are those that are wanted.
+// The canonical pixels in bands of `size` pixels, and the tree in `parts`, are those that are wanted.
 fn compare<R: Threads + Sync + Abort>(
     rt: &R,
     alloc: Global,
     number: usize,
     case: &Case,
     size: usize,
+    parts: u32,
 )
     requires { 0 < size }
 {
@@ -210,7 +211,7 @@ fn compare<R: Threads + Sync + Abort>(
     let plane = Plane::of(alloc, shape, case.values)
         .expect(rt, "memory")
         .expect(rt, "a plane");
-    let found = found_from(rt, alloc, &plane, case.connect, case.links, size, 3);
+    let found = found_from(rt, alloc, &plane, case.connect, case.links, size, parts);
     let (pixels, tree) = found.expect(rt, "memory").expect(rt, "links that fit");
     assert!(rt;
         pixels.as_slice() == case.nodes,
@@ -279,6 +280,6 @@ fn a_large_plane_has_three_bands(rt: HostRuntime) -> Result<(), Fail> {
         rows: &[(5, 10, NONE), (5, 131_072, NONE), (7, 65_535, NONE)],
         node_of: &node_of,
     };
-    compare(&rt, alloc, 0, &case, 100_000);
+    compare(&rt, alloc, 0, &case, 100_000, 3);
     Ok(())
 }

@@ -11,7 +11,7 @@ use Rattle.tree_canon.proofs.Trees.{rows_from, tree_is, well_formed}
 use Rattle.tree_canon.proofs.canon.Goals as goal
 
 pub number_nodes-requires-clause-canonical : goal.number_nodes-requires-clause-canonical
-number_nodes-requires-clause-canonical g c = c.deref.ensures.value ∙ c.in_ok-pixels.ensures
+number_nodes-requires-clause-canonical g c = λ lifetimes within. c.deref.ensures.value ∙ c.in_ok-pixels.ensures
 
 pub set_parents-requires-clause-within : goal.set_parents-requires-clause-within
 set_parents-requires-clause-within g c =
