@@ -30,7 +30,8 @@ pub(crate) enum Made {
     OfTwo(Measured),
 }
 
-/// What an order makes of an image. All memory for it is taken here.
+/// What an order makes of an image. All memory that it wants is taken here: the texts of lines, which threads make while they
+/// are written, can do without.
 pub(crate) fn make<R: Threads + Sync, G: Gate>(
     rt: &R,
     alloc: Global,
@@ -85,7 +86,12 @@ pub(crate) fn make_trial<R: Threads + Sync, G: Gate>(
 }
 
 /// Writes it, and hands all of it on.
-pub(crate) fn write_made<O: Sink>(output: &mut O, made: &Made) -> Result<(), WriteFault>
+pub(crate) fn write_made<R: Threads + Sync, O: Sink>(
+    rt: &R,
+    alloc: Global,
+    output: &mut O,
+    made: &Made,
+) -> Result<(), WriteFault>
     requires { IsMade made.now }
     ensures bytes { PutAppends (O.written output.old) (O.written output.new) result
         (made_bytes made.now) }
@@ -93,7 +99,7 @@ pub(crate) fn write_made<O: Sink>(output: &mut O, made: &Made) -> Result<(), Wri
     ensures cause { HasCause (O.faults output.old) (O.faults output.new) result }
 {
     match made {
-        Made::OfOne(product) => write(output, product),
+        Made::OfOne(product) => write(rt, alloc, output, product),
         Made::OfTwo(found) => put_measured(output, found),
     }
 }

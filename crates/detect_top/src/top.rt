@@ -112,7 +112,7 @@ fn carry_out<R: Threads + Sync, S: Source, O: Sink, G: Gate>(
         Err(Stop::ReadFault) => return End::ReadFault,
         Err(Stop::NoMemory) => return End::NoMemory,
     };
-    match write_made(output, &made) {
+    match write_made(rt, alloc, output, &made) {
         Ok(()) => End::Done,
         Err(_) => End::WriteFault,
     }
@@ -170,7 +170,8 @@ fn run_order<R: Threads + Sync, S: Source, O: Sink, N: Sink, G: Gate>(
 /// `measure` as the first word, sources are detected in one image and measured in another of the same file; all other words work on one image, or
 /// make one. No area that the words name is larger than the most pixels of an image. An image that a trial makes has the usual limits.
 ///
-/// All memory is taken before the first byte of output, which comes in pieces of at most 2,880 bytes.
+/// All memory on which an answer depends is taken before the first byte of output, which comes in pieces of at most 2,880 bytes. What is taken later
+/// are texts of a tree's lines, where several workers make them: where memory for these is refused, the lines are made without.
 pub fn end_within<R: Threads + Sync, S: Source, O: Sink, G: Gate>(
     rt: &R,
     alloc: Global,

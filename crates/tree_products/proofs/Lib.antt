@@ -1,4 +1,5 @@
 mod NodeLines
+mod StretchTexts
 mod EachArea
 mod Cells
 mod Detections

@@ -1,4 +1,5 @@
 pub mod Lines
+pub mod LineStretches
 pub mod Catalogues
 pub mod Trials
 pub mod SmallValues

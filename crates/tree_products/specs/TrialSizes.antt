@@ -1,5 +1,5 @@
 -- Bookkeeping: how large the values and the fluxes of a trial are.
-use Rattle.std.specs.Prelude.{◌≡◌, ℕ, ◌*◌, ◌^◌, List, pos, ◌-ℤ◌, ◌*ℤ◌, ◌≤◌, ◌≤ℤ◌, Some, slice_get}
+use Rattle.std.specs.Prelude.{◌≡◌, ℕ, ◌*◌, ◌^◌, List, pos, ◌-ℤ◌, ◌*ℤ◌, ◌≤ℤ◌, Some, slice_get}
 use Rattle.comp_tree.specs.ComponentTree.{ComponentTree}
 use Rattle.node_sums.specs.declared.outline.Outline.{Outline}
 use Rattle.node_sums.specs.Flux.{base_of}

@@ -4,7 +4,9 @@
 mod detection;
 mod lines;
 mod product;
+mod rounds;
 mod standing;
+mod texts;
 mod trial;
 
 pub use detection::{Detection, detect, detect_on_sheet, put_detection};
@@ -16,5 +18,7 @@ pub use trial::{Summary, put_trial, summarize, trial_image};
 
 #[cfg(test)]
 mod product_tests;
+#[cfg(test)]
+mod rounds_tests;
 #[cfg(test)]
 mod tests;

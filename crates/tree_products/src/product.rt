@@ -78,8 +78,8 @@ fn filtered_by(
     filter(alloc, plane, tree, outlines, rule, criterion)
 }
 
-/// What a job makes of a plane, from the ground on which it works and its tree, which are gone when this returns. So many workers fill a map. The
-/// one error is that memory was refused.
+/// What a job makes of a plane, from the ground on which it works and its tree, which are gone when this returns. So many workers fill a map,
+/// or make the lines of nodes when these are written. The one error is that memory was refused.
 pub fn make_of<R: Threads + Sync>(
     rt: &R,
     alloc: Global,
@@ -117,7 +117,7 @@ fn make_of_plane<R: Threads + Sync>(
         bytes_of product ≡ output_of_job job connect plane) }
 {
     match job {
-        Job::Tree => Ok(Product::Nodes(node_areas(alloc, plane, tree)?)),
+        Job::Tree => Ok(Product::Nodes(node_areas(alloc, plane, tree, workers)?)),
         Job::Filter { rule, criterion } => Ok(Product::Image(filtered(
             alloc, plane, tree, rule, &criterion,
         )?)),
@@ -205,29 +205,42 @@ fn without_far<R: Threads + Sync>(
     Ok(plane)
 }
 
-fn put_product<O: Sink>(output: &mut O, product: &Product) -> Result<(), WriteFault>
+fn put_product<R: Threads + Sync, O: Sink>(
+    rt: &R,
+    alloc: Global,
+    output: &mut O,
+    product: &Product,
+) -> Result<(), WriteFault>
     requires { IsWritable product.now }
     ensures bytes { PutAppends (O.written output.old) (O.written output.new) result
         (bytes_of product.now) }
     ensures cause { HasCause (O.faults output.old) (O.faults output.new) result }
 {
     match product {
-        Product::Nodes(nodes) => put_tree(output, &nodes.tree, &nodes.areas),
+        Product::Nodes(nodes) => {
+            put_tree(rt, alloc, output, &nodes.tree, &nodes.areas, nodes.parts)
+        }
         Product::Image(plane) => put_plane(output, plane),
         Product::Sources(found) => put_detection(output, found),
         Product::Told(summary) => put_trial(output, summary),
     }
 }
 
-/// Writes it, and hands all of it on.
-pub fn write<O: Sink>(output: &mut O, product: &Product) -> Result<(), WriteFault>
+/// Writes it, and hands all of it on. Lines of nodes are made by as many threads as their list has parts: where memory for that is
+/// refused they are made one by one, so the output and the answer are the same.
+pub fn write<R: Threads + Sync, O: Sink>(
+    rt: &R,
+    alloc: Global,
+    output: &mut O,
+    product: &Product,
+) -> Result<(), WriteFault>
     requires { IsWritable product.now }
     ensures bytes { PutAppends (O.written output.old) (O.written output.new) result
         (bytes_of product.now) }
     ensures settled { OnOk result (IsTrue (O.settled output.new)) }
     ensures cause { HasCause (O.faults output.old) (O.faults output.new) result }
 {
-    if let Err(fault) = put_product(output, product) {
+    if let Err(fault) = put_product(rt, alloc, output, product) {
         return Err(fault);
     }
     match output.done() {

@@ -38,7 +38,7 @@ fn the_list_of_two_nodes(rt: HostRuntime) -> Result<(), Fail> {
     let tree = plain_tree(alloc, &plane, Connect::Four)?;
     let product = make_of(&rt, alloc, Job::Tree, 1, Ground::Whole(plane), tree)?;
     let mut sink = MemSink::new(vec![in alloc; 0; 99]?, &[], 0);
-    assert!(rt; write(&mut sink, &product).is_ok());
+    assert!(rt; write(&rt, alloc, &mut sink, &product).is_ok());
     assert_eq!(rt; sink.bytes(), b"0 -3 0 - 2\n1 5 1 0 1\n".as_slice());
     Ok(())
 }
@@ -61,7 +61,7 @@ fn the_plane_of_the_root_alone(rt: HostRuntime) -> Result<(), Fail> {
     };
     let product = make_of(&rt, alloc, job, 1, Ground::Whole(plane), tree)?;
     let mut sink = MemSink::new(vec![in alloc; 0; 5760]?, &[], 0);
-    assert!(rt; write(&mut sink, &product).is_ok());
+    assert!(rt; write(&rt, alloc, &mut sink, &product).is_ok());
     assert_eq!(rt; sink.bytes().len(), 5760);
     Ok(())
 }

@@ -67,9 +67,19 @@ fn the_lines_of_two_nodes(rt: HostRuntime) -> Result<(), Fail> {
     let shape = Shape::of(2, 1).ok_or("a shape")?;
     let plane = Plane::of(alloc, shape, &[Some(-3), Some(5)])?.ok_or("a plane")?;
     let tree = plain_tree(alloc, &plane, Connect::Four)?;
-    let nodes = node_areas(alloc, plane, tree)?;
+    let nodes = node_areas(alloc, plane, tree, 1)?;
     let mut sink = MemSink::new(vec![in alloc; 0; 99]?, &[], 0);
-    assert_eq!(rt; put_tree(&mut sink, &nodes.tree, &nodes.areas), Ok(()));
+    assert_eq!(rt;
+        put_tree(
+            &rt,
+            alloc,
+            &mut sink,
+            &nodes.tree,
+            &nodes.areas,
+            nodes.parts
+        ),
+        Ok(())
+    );
     assert_eq!(rt; sink.bytes(), b"0 -3 0 - 2\n1 5 1 0 1\n".as_slice());
     Ok(())
 }
