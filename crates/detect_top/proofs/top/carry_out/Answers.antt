@@ -10,9 +10,10 @@ returns-in-Err-Refused-clause-bytes g c = λ x tells.
     let asked = asked_for c.args.limits.now c.args.order c.args.order.job in
     let left = g.S.Source.left c.args.input.now in
     let left' = g.S.Source.left c.make_by_order.new.input in
-    refused_so (asked.answer x) (asked.memory_at x) _ _ c.in-Err-Refused.fault refl
+    rw c.in-Err-Refused.fault-is
+    (refused_so (asked.answer x) (asked.memory_at x) _ _ c.in-Err-Refused.fault refl
     (subst (λ (stop : Stop). HasStopped (asked.answer x) (asked.memory_at x) left left' stop) c.in-Err-Refused.field-0-is
-    (c.in-Err-Refused.ensures.told x tells))
+    (c.in-Err-Refused.ensures.told x tells)))
 
 pub returns-in-Err-ReadFault-clause-bytes : goal.returns-in-Err-ReadFault-clause-bytes
 returns-in-Err-ReadFault-clause-bytes g c = λ x tells.
