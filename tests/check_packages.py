@@ -24,7 +24,10 @@ from typing import Callable
 
 ASK = """
 import maxdetect
-print(maxdetect.__version__, *(maxdetect.find_program(name=name) for name in ("maxdetect", "maxwide", "maxsurvey")))
+from maxdetect import _loops
+
+programs = (maxdetect.find_program(name=name) for name in ("maxdetect", "maxwide", "maxsurvey"))
+print(maxdetect.__version__, _loops.library() is not None, *programs)
 """
 # Words behind maxdetect, after which its options are offered.
 COMMANDS = ("detect", "measure", "filter", "tree", "trial")
@@ -161,9 +164,11 @@ def first_look(place, work):
 
 def imported(place, version):
     """`import maxdetect` gives the package's version, and its own programs."""
-    told, *programs = done([place.python, "-c", ASK], env=place.environment(), cwd="/").decode().split()
+    told, has_loops, *programs = done([place.python, "-c", ASK], env=place.environment(), cwd="/").decode().split()
     if told != version or not all(pathlib.Path(it).resolve().is_relative_to(place.prefix.resolve()) for it in programs):
         raise Amiss(f"version {told} finds {programs}")
+    if has_loops != "True":
+        raise Amiss("the package's loops in C aren't there")
     line = done([place.prefix / "bin/maxcat", "--version"], env=place.environment()).decode()
     if line != f"maxcat {version}\n":
         raise Amiss(f"maxcat --version prints {line!r}")

@@ -55,6 +55,12 @@ made = pathlib.Path(sys.argv[sys.argv.index("-o") + 1])
 made.write_text("#!/bin/sh\\nexit 0\\n")
 made.chmod(0o755)
 """
+# What compiles the package's loops.
+LOOPS = """
+import pathlib, sys
+
+(pathlib.Path(sys.argv[0]).parent.parent / "python" / "maxdetect" / "libloops.so").write_text("")
+"""
 
 
 class Tree:
@@ -68,6 +74,11 @@ class Tree:
         (self.top / "crates.txt").write_text("".join(f"{name}: {below}\n" for name, below in CRATES.items()))
         (self.top / "scripts").mkdir()
         shutil.copy(BUILD, self.top / "scripts")
+        self.library = self.top / "python" / "maxdetect" / "libloops.so"
+        (self.top / "python" / "loops").mkdir(parents=True)
+        self.library.parent.mkdir()
+        (self.top / "scripts" / "loops").write_text(f"#!{sys.executable} -IS{LOOPS}")
+        (self.top / "scripts" / "loops").chmod(0o755)
         for path in (self.kit / "bin", self.kit / "rlibs" / "std.rlib", self.said):
             path.mkdir(parents=True)
         (self.kit / "WHAT").write_text("a kit")
@@ -174,6 +185,16 @@ def test_what_is_newer_than_the_program_makes_it_anew(tree):
     assert tree.build() == (0, "") and not tree.log.exists()
     os.utime(tree.top / "crates" / "costs" / "src" / "lib.rt", (later, later))
     assert tree.build()[0] == 0 and not tree.log.exists()
+
+
+def test_the_loops_are_compiled_with_a_program_and_where_a_source_is_newer(tree):
+    assert tree.build()[0] == 0 and tree.library.exists()
+    tree.library.unlink()
+    assert tree.build() == (0, "") and not tree.library.exists()
+    tree.library.write_text("old")
+    (tree.top / "python" / "loops" / "sky.c").write_text("")
+    os.utime(tree.library, (1, 1))
+    assert tree.build() == (0, "") and tree.library.read_text() == ""
 
 
 @pytest.mark.parametrize("crate", ["comp_tree", "fits_card", "measure_top", "survey_sqlite", "maxsurvey"])

@@ -1,7 +1,8 @@
 """The package's loops over pixels in C, where they are compiled: the same numbers as by numpy and SEP, sooner.
 
-`scripts/loops` compiles python/loops into the library beside this module. Where it isn't there, or MAXDETECT_LOOPS is
-empty, numpy and SEP do the same work; MAXDETECT_LOOPS may name another library. A call gives the interpreter free.
+`scripts/loops` compiles python/loops into the library beside this module. Where it isn't there, is older than one of
+its sources in a clone, or MAXDETECT_LOOPS is empty, numpy and SEP do the same work; MAXDETECT_LOOPS may name another
+library. While a loop is at work other threads go on.
 """
 import ctypes
 import functools
@@ -13,8 +14,9 @@ import numpy
 
 __all__ = ["Loop", "array", "flag", "library", "number", "whole"]
 
-# Where scripts/loops puts the library.
+# Where scripts/loops puts the library, and in a clone its sources.
 PLACE = pathlib.Path(__file__).resolve().with_name("libloops.so")
+SOURCES = PLACE.parent.parent / "loops"
 
 # The types of plain numbers.
 number, whole, flag = ctypes.c_double, ctypes.c_int64, ctypes.c_int32
@@ -25,10 +27,19 @@ def array(dtype: str) -> Any:
     return numpy.ctypeslib.ndpointer(numpy.dtype(dtype), flags="C_CONTIGUOUS")
 
 
+def _is_current() -> bool:
+    """Whether the library is there, and no source is newer: another version's functions may want other arguments."""
+    try:
+        made = PLACE.stat().st_mtime_ns
+        return all(path.stat().st_mtime_ns <= made for path in SOURCES.glob("*.[ch]"))
+    except OSError:
+        return False
+
+
 @functools.lru_cache(maxsize=None)
 def library() -> Optional[ctypes.CDLL]:
     """The compiled loops, or None."""
-    path = os.environ.get("MAXDETECT_LOOPS", os.fspath(PLACE))
+    path = os.environ.get("MAXDETECT_LOOPS", os.fspath(PLACE) if _is_current() else "")
     try:
         return ctypes.CDLL(path) if path else None
     except OSError:
