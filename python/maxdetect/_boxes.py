@@ -1,10 +1,55 @@
 """Sums over boxes of an image, in whole numbers, so that they are the same in every window that holds the box."""
+from typing import Tuple
+
 import numpy
 
-__all__ = ["both_sums", "sums", "within"]
+from ._loops import Loop, array, whole
+
+__all__ = ["around", "both_sums", "sums", "within"]
 
 # So many rows are at work at a time.
 ROWS = 32
+
+# An image, which of its pixels are chosen, its height and width, and half a box; rows and columns of some pixels, and
+# how many they are; room for pixels and sums down the columns and along a row; and what lies around the pixels.
+_LOOP = Loop(
+    "around_pixels",
+    *(array("i4"), array("?"), whole, whole, whole),
+    *(array("i8"), array("i8"), whole),
+    *(array("i4"), array("i8"), array("i8"), array("i8")),
+    *(array("i8"), array("i8")),
+)
+
+
+def around(
+    image: numpy.ndarray, chosen: numpy.ndarray, half: int, rows: numpy.ndarray, columns: numpy.ndarray
+) -> Tuple[numpy.ndarray, numpy.ndarray]:
+    """For each of the pixels of these rows, in order, and columns how many of the pixels up to `half` rows and columns
+    away are chosen, as far as the image of 32 bits goes, and their sum.
+    """
+    if _LOOP:
+        return _around(image, chosen, half, rows, columns)
+    bounds = []
+    for at, side in ((rows, image.shape[0]), (columns, image.shape[1])):
+        bounds += [numpy.maximum(at - half, 0), numpy.minimum(at + half + 1, side)]
+    bits = ((2 * half + 1) ** 2).bit_length()
+    if 2 * bits < 32:
+        both = within(both_sums(image, chosen, bits), *bounds)
+        return both & (2**bits - 1), both >> bits
+    return within(sums(chosen, "i4"), *bounds).astype("i8"), within(sums(numpy.where(chosen, image, 0)), *bounds)
+
+
+def _around(
+    image: numpy.ndarray, chosen: numpy.ndarray, half: int, rows: numpy.ndarray, columns: numpy.ndarray
+) -> Tuple[numpy.ndarray, numpy.ndarray]:
+    """The same by the loop."""
+    (height, width), count = image.shape, len(rows)
+    image, chosen = numpy.ascontiguousarray(image, dtype="i4"), numpy.ascontiguousarray(chosen)
+    at = (numpy.ascontiguousarray(it, dtype="i8") for it in (rows, columns))
+    room = (numpy.empty(width + 1, dtype=dtype) for dtype in ("i4", "i8", "i8", "i8"))
+    pixels, totals = numpy.empty(count, dtype="i8"), numpy.empty(count, dtype="i8")
+    _LOOP(image, chosen, height, width, half, *at, count, *room, pixels, totals)
+    return pixels, totals
 
 
 def sums(image: numpy.ndarray, dtype: str = "i8") -> numpy.ndarray:

@@ -54,23 +54,9 @@ def _around(
     for top in range(rows[0], rows[-1] + 1, ROWS) if len(rows) else ():
         some = slice(*numpy.searchsorted(rows, (top, top + ROWS)))
         seen = slice(max(0, top - half), top + ROWS + half)
-        found.append(_of_boxes(numbers[seen], beside[seen], half, rows[some] - seen.start, columns[some]))
+        own = rows[some] - seen.start, columns[some]
+        found.append(_Around(*boxes.around(numbers[seen], beside[seen], half, *own)))
     return _Around(*(numpy.concatenate(them) for them in zip(*found)))
-
-
-def _of_boxes(
-    numbers: numpy.ndarray, beside: numpy.ndarray, half: int, rows: numpy.ndarray, columns: numpy.ndarray
-) -> _Around:
-    """The same of some rows alone, which hold all boxes."""
-    bounds = []
-    for at, side in ((rows, numbers.shape[0]), (columns, numbers.shape[1])):
-        bounds += [numpy.maximum(at - half, 0), numpy.minimum(at + half + 1, side)]
-    bits = ((2 * half + 1) ** 2).bit_length()
-    if 2 * bits < 32:
-        both = boxes.within(boxes.both_sums(numbers, beside, bits), *bounds)
-        return _Around(both & (2**bits - 1), both >> bits)
-    pixels = boxes.within(boxes.sums(beside, "i4"), *bounds)
-    return _Around(pixels, boxes.within(boxes.sums(numpy.where(beside, numbers, 0)), *bounds))
 
 
 class _Bands:

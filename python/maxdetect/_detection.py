@@ -86,8 +86,8 @@ class Detector:
         for top in range(box.top, box.bottom, ROWS):
             rows = slice(top, min(top + ROWS, box.bottom))
             seen = looks.seen(self.field, self.sky, self.how.smooth, rows, box.columns)
-            seen *= numpy.float32(scaling.SIGMA / self.how.noise)
-            made.array[top - box.top : rows.stop - box.top] = scaling.whole_numbers(seen).filled(kernel.LEAST)
+            own = made.array[top - box.top : rows.stop - box.top]
+            scaling.put_whole_numbers(own, seen, scaling.SIGMA / self.how.noise)
             maps.let_go(made.array)
         return made
 

@@ -15,6 +15,7 @@ from typing import Callable, Dict, Iterator, List, NamedTuple, Tuple
 import numpy
 
 from . import _nodes as nodes
+from ._loops import Loop, array as row_by_row, whole
 from ._maps import bands, let_go
 from ._rows import Rows
 
@@ -28,6 +29,22 @@ LEAST = numpy.iinfo("i4").min
 # By how many rows and columns the neighbours behind a pixel lie further on.
 BEHIND = [(0, 1), (1, -1), (1, 0), (1, 1)]
 
+# Numbers and map of some pixels, how many they are, the threshold, and the first one's place; and places, values and
+# labels of those that pass the threshold, and how many these are.
+_THRESHOLD_SET = Loop(
+    "threshold_set",
+    *(row_by_row(">i4"), row_by_row(">i4"), whole, whole, whole),
+    *(row_by_row("i8"), row_by_row("i4"), row_by_row("i4"), row_by_row("i8")),
+)
+# Places and values of a threshold set, with labels or without, how many they are, and the window's width.
+_UNLABELLED = row_by_row("i8"), row_by_row("i4"), whole, whole
+_LABELLED = row_by_row("i8"), row_by_row("i4"), row_by_row("i4"), whole, whole
+# Some pixels, how many they are, room for rows, and what they get.
+_UPHILL = Loop("uphill", *_UNLABELLED, row_by_row("i8"), whole, row_by_row("i8"), row_by_row("i8"))
+_HIGHEST = Loop("highest_beside", *_LABELLED, row_by_row("i8"), whole, row_by_row("i8"), row_by_row("i4"))
+# From which pixel up to which, and room for rows; and labels and levels of the pairs, and how many these are.
+_TOUCHING = Loop("touching", *_LABELLED, whole, whole, *[row_by_row("i8")] * 5)
+
 
 class _Pixels:
     """The pixels of a window's threshold set, row by row, each with its number and the source to which it belongs, 0
@@ -37,10 +54,7 @@ class _Pixels:
     def __init__(self, numbers: numpy.ndarray, segments: numpy.ndarray, threshold: int):
         (self.height, self.width), found = numbers.shape, []
         for rows in bands(numbers):
-            values = numpy.asarray(numbers[rows], dtype="i4").ravel()
-            places = numpy.flatnonzero(values >= threshold)
-            labels = numpy.asarray(segments[rows]).ravel()[places].astype("i4")
-            found.append((places + rows.start * self.width, values[places], labels))
+            found.append(_threshold_set(numbers[rows], segments[rows], threshold, rows.start * self.width))
             let_go(segments)
         places, values, labels = (numpy.concatenate(parts) for parts in zip(*found))
         self.count, self.places = len(places), numpy.append(places, [numpy.iinfo("i8").max] * 3)
@@ -67,6 +81,71 @@ class _Pixels:
         below, above = (self._in_row(places + by, inside) for by in (self.width, -self.width))
         return [right, *below, left, *above[::-1]]
 
+    @property
+    def labelled(self) -> Tuple[numpy.ndarray, numpy.ndarray, numpy.ndarray, int, int]:
+        """What loops are told of the pixels."""
+        return self.places, self.values, self.labels, self.count, self.width
+
+    @property
+    def unlabelled(self) -> Tuple[numpy.ndarray, numpy.ndarray, int, int]:
+        """What loops are told of the pixels that need no labels."""
+        return self.places, self.values, self.count, self.width
+
+    @property
+    def _room(self) -> numpy.ndarray:
+        """Room for a row, the one above and the one below, with a column more at both ends."""
+        return numpy.empty((3, self.width + 2), dtype="i8")
+
+    def uphill(self, some: numpy.ndarray) -> numpy.ndarray:
+        """For some pixels, in order, the highest of the neighbours that stand higher, or the pixel itself."""
+        if _UPHILL:
+            way = numpy.empty(len(some), dtype="i8")
+            _UPHILL(*self.unlabelled, some, len(some), self._room, way)
+            return way
+        return numpy.concatenate([some[:0], *map(self._uphill, _chunks(some))])
+
+    def _uphill(self, some: numpy.ndarray) -> numpy.ndarray:
+        best, up = self.values[some], some
+        for beside in self.around(some):
+            its = self.values[beside]
+            up, best = numpy.where(its > best, beside, up), numpy.maximum(best, its)
+        return up
+
+    def highest(self, some: numpy.ndarray) -> numpy.ndarray:
+        """For some pixels, in order, the source of the neighbour that stands highest among those with one."""
+        if _HIGHEST:
+            given = numpy.empty(len(some), dtype="i4")
+            _HIGHEST(*self.labelled, some, len(some), self._room, given)
+            return given
+        return numpy.concatenate([self.labels[:0], *map(self._highest, _chunks(some))])
+
+    def _highest(self, some: numpy.ndarray) -> numpy.ndarray:
+        best, label = numpy.full(some.size, LEAST, dtype="i4"), numpy.zeros(some.size, dtype="i4")
+        for beside in self.around(some):
+            its = self.labels[beside]
+            value = numpy.where(its != 0, self.values[beside], LEAST)
+            label, best = numpy.where(value > best, its, label), numpy.maximum(best, value)
+        return label
+
+    def met(self) -> Iterator[numpy.ndarray]:
+        """Of pairs of pixels side by side that belong to two sources the lesser number of these, the greater one, and
+        the lesser of the pixels' own numbers, in three rows.
+        """
+        if _TOUCHING:
+            yield from (self._met(first) for first in range(0, self.count, CACHED))
+            return
+        for one, other in self.touching():
+            pair = numpy.sort([self.labels[one], self.labels[other]], axis=0)
+            level = numpy.minimum(self.values[one], self.values[other])
+            yield numpy.concatenate([pair, level[None, :]]).astype("i8")
+
+    def _met(self, first: int) -> numpy.ndarray:
+        """The same of some pixels, from one on, with those behind them."""
+        end, count = min(first + CACHED, self.count), numpy.empty(1, dtype="i8")
+        found = [numpy.empty(len(BEHIND) * (end - first), dtype="i8") for _ in range(3)]
+        _TOUCHING(*self.labelled, first, end, self._room, *found, count)
+        return numpy.array([them[: count[0]] for them in found])
+
     def touching(self) -> Iterator[Tuple[numpy.ndarray, numpy.ndarray]]:
         """Pairs of pixels side by side that belong to two sources."""
         rows = max(1, 4 * CACHED // self.width)
@@ -88,6 +167,24 @@ class _Pixels:
                 yield one, numpy.searchsorted(self.places, self.places[one] + step)
 
 
+def _threshold_set(
+    numbers: numpy.ndarray, segments: numpy.ndarray, threshold: int, first: int
+) -> Tuple[numpy.ndarray, numpy.ndarray, numpy.ndarray]:
+    """Places, numbers and labels of the pixels of some rows that pass the threshold; `first` is the place of the rows'
+    first pixel.
+    """
+    if not _THRESHOLD_SET:
+        values = numpy.asarray(numbers, dtype="i4").ravel()
+        places = numpy.flatnonzero(values >= threshold)
+        labels = numpy.asarray(segments).ravel()[places].astype("i4")
+        return places + first, values[places], labels
+    numbers, segments = (numpy.ascontiguousarray(them, dtype=">i4") for them in (numbers, segments))
+    places, values, labels = (numpy.empty(numbers.size, dtype=dtype) for dtype in ("i8", "i4", "i4"))
+    count = numpy.empty(1, dtype="i8")
+    _THRESHOLD_SET(numbers, segments, numbers.size, threshold, first, places, values, labels, count)
+    return places[: count[0]], values[: count[0]], labels[: count[0]]
+
+
 def _chunks(some: numpy.ndarray) -> Iterator[numpy.ndarray]:
     return (some[first : first + CACHED] for first in range(0, len(some), CACHED))
 
@@ -96,16 +193,10 @@ def _share_out(pixels: _Pixels) -> None:
     """Gives each pixel of the threshold set that no source has to the one to which the way uphill leads, and what a
     peak without a source holds to the neighbour that stands highest.
     """
-    values, labels = pixels.values, pixels.labels
+    labels = pixels.labels
     rest = numpy.flatnonzero(labels[:-1] == 0)
     way = numpy.arange(pixels.count)
-    for some in _chunks(rest):
-        best, up = values[some], some
-        for beside in pixels.around(some):
-            its = values[beside]
-            up, best = numpy.where(its > best, beside, up), numpy.maximum(best, its)
-        way[some] = up
-    up = way[rest]
+    way[rest] = up = pixels.uphill(rest)
     while True:
         further = way[up]
         if (further == up).all():
@@ -114,21 +205,11 @@ def _share_out(pixels: _Pixels) -> None:
     labels[rest] = labels[up]
     rest = rest[labels[rest] == 0]
     while rest.size:
-        given = numpy.concatenate([_highest(pixels, some) for some in _chunks(rest)])
+        given = pixels.highest(rest)
         if not given.any():
             break
         labels[rest] = given
         rest = rest[given == 0]
-
-
-def _highest(pixels: _Pixels, some: numpy.ndarray) -> numpy.ndarray:
-    """For some pixels the source of the neighbour that stands highest among those with one."""
-    best, label = numpy.full(some.size, LEAST, dtype="i4"), numpy.zeros(some.size, dtype="i4")
-    for beside in pixels.around(some):
-        its = pixels.labels[beside]
-        value = numpy.where(its != 0, pixels.values[beside], LEAST)
-        label, best = numpy.where(value > best, its, label), numpy.maximum(best, value)
-    return label
 
 
 class _Meetings(NamedTuple):
@@ -141,12 +222,7 @@ class _Meetings(NamedTuple):
 
 def _meetings(pixels: _Pixels) -> _Meetings:
     """Where parts meet. Two pixels side by side meet at the lesser of their numbers."""
-    found = [numpy.zeros((3, 0), dtype="i8")]
-    for one, other in pixels.touching():
-        pair = numpy.sort([pixels.labels[one], pixels.labels[other]], axis=0)
-        level = numpy.minimum(pixels.values[one], pixels.values[other])
-        found.append(numpy.concatenate([pair, level[None, :]]).astype("i8"))
-    one, other, level = numpy.concatenate(found, axis=1)
+    one, other, level = numpy.concatenate([numpy.zeros((3, 0), dtype="i8"), *pixels.met()], axis=1)
     if not len(one):
         return _Meetings([], [], [])
     pairs = one * (int(pixels.labels.max()) + 1) + other

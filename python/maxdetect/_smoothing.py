@@ -5,6 +5,7 @@ from typing import Callable, Iterable
 import numpy
 
 from . import _sky as sky
+from ._loops import Loop, array, whole
 from ._windows import rows_and_columns
 
 __all__ = ["correlated", "margin", "noise_behind", "smoothed"]
@@ -18,6 +19,18 @@ CELL, LEAST_CELL, MOST_BANDS = 6, 16, 24
 CACHED = 2**16
 # Up to this part of an image its weights are summed up place by place.
 FEW = 0.1
+# For so many rows and columns the loop has to have room, besides those within reach.
+ROOM = 64, 256 + 16
+# An image, its height and width; the weights and their squares, and how far they reach; the roots of the summed squares
+# by row and by column; room to work in; and what is smoothed.
+_LOOP = Loop(
+    "smoothed",
+    *(array("f4"), whole, whole),
+    *(array("f8"), array("f8"), whole),
+    *(array("f4"), array("f4")),
+    *(array("f4"), array("f8"), array("i4")),
+    array("f4"),
+)
 
 
 def margin(width: float) -> int:
@@ -38,12 +51,14 @@ def smoothed(image: numpy.ndarray, width: float) -> numpy.ndarray:
     """
     reach = margin(width)
     weights = numpy.exp(-0.5 * (numpy.arange(-reach, reach + 1) * WIDTH / width) ** 2)
+    down, across = (numpy.sqrt(_along(numpy.ones((1, side)), weights**2)[0]).astype("f4") for side in image.shape)
+    if _LOOP and image.dtype == numpy.float32:
+        return _in_one_go(image, weights, down, across)
     finite = numpy.isfinite(image)
     defined = bool(finite.all())
     total = _along_both(image if defined else _filled(image, finite), weights)
     beside = None if defined else _beside(finite, reach)
     near = None if beside is None else total.ravel()[beside]
-    down, across = (numpy.sqrt(_along(numpy.ones((1, side)), weights**2)[0]).astype("f4") for side in image.shape)
     total /= down[:, None]
     total /= across[None, :]
     if beside is None:
@@ -53,6 +68,19 @@ def smoothed(image: numpy.ndarray, width: float) -> numpy.ndarray:
         total.ravel()[beside] = near / numpy.sqrt(_weights_at(beside, finite, weights**2))
     numpy.copyto(total, numpy.nan, where=~finite)
     return total
+
+
+def _in_one_go(
+    image: numpy.ndarray, weights: numpy.ndarray, down: numpy.ndarray, across: numpy.ndarray
+) -> numpy.ndarray:
+    """The smoothed image by these weights, whose summed squares have these roots by row and by column."""
+    (height, width), reach = image.shape, len(weights) // 2
+    rows, wide = (side + 2 * reach for side in ROOM)
+    room = numpy.empty((2 * rows + 1, wide), dtype="f4"), numpy.empty(wide), numpy.empty(wide, dtype="i4")
+    made = numpy.empty((height, width), dtype="f4")
+    image = numpy.ascontiguousarray(image)
+    _LOOP(image, height, width, weights, weights**2, reach, down, across, *room, made)
+    return made
 
 
 def _filled(image: numpy.ndarray, finite: numpy.ndarray) -> numpy.ndarray:

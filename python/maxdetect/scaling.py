@@ -5,6 +5,7 @@ from typing import Optional, Tuple, Union
 import numpy
 
 from ._estimates import floats, of_array
+from ._loops import Loop, array, number, whole
 from ._nddata import AnyImage, array_of
 from ._wholenumbers import WIDE_VALUE
 
@@ -15,6 +16,9 @@ BLANK = -(2**31)
 # Values are cut here, as far from 0 as a large image's may lie: at 18 million deviations of the noise.
 GREATEST = WIDE_VALUE
 KERNEL = (1, 2, 1)
+
+# Scaled numbers, how many they are, how many times they are taken, the greatest whole number, and the whole numbers.
+_LOOP = Loop("stored_numbers", array("f4"), whole, number, number, array(">i4"))
 
 
 def threshold(sigmas: float) -> int:
@@ -87,6 +91,17 @@ def whole_numbers(scaled: numpy.ndarray) -> numpy.ma.MaskedArray:
     if scaled.size and max(-scaled.min(), scaled.max()) > GREATEST:
         numpy.clip(scaled, -GREATEST, GREATEST, out=scaled)
     return numpy.ma.MaskedArray(scaled.astype("i4"), mask=undefined if some else numpy.ma.nomask)
+
+
+def put_whole_numbers(numbers: numpy.ndarray, scaled: numpy.ndarray, times: float) -> None:
+    """Puts the nearest whole numbers of so many times the scaled ones, which are 32-bit floating-point numbers row by
+    row, where the program reads them: BLANK for what isn't finite. The scaled ones may be changed in place.
+    """
+    if _LOOP:
+        _LOOP(scaled, scaled.size, times, GREATEST, numbers)
+        return
+    scaled *= numpy.float32(times)
+    numbers[...] = whole_numbers(scaled).filled(BLANK)
 
 
 def deviations(

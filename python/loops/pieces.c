@@ -1,0 +1,203 @@
+/* The pixels of a window's threshold set, row by row: each has a place in the window, a number and a label, which is
+ * that of its source, or 0. Pixels side by side are found by going through its row, the one above and the one below. */
+#include "loops.h"
+
+/* The same loop for wider vectors, where the processor has them. */
+#if defined(__x86_64__) && defined(__GNUC__) && !defined(__clang__)
+#define VECTORS __attribute__((target_clones("avx512f", "avx2", "default")))
+#else
+#define VECTORS
+#endif
+
+/* Of so many pixels one is looked for at once. */
+enum { BLOCK = 32 };
+
+/* A number that is stored as FITS files have it, its highest byte first. */
+static inline int32_t number_of(uint32_t stored)
+{
+#if __BYTE_ORDER__ == __ORDER_LITTLE_ENDIAN__
+    stored = __builtin_bswap32(stored);
+#endif
+    return (int32_t)stored;
+}
+
+/* Whether some numbers reach a threshold. */
+static inline __attribute__((always_inline)) int reach(const uint32_t *numbers, int64_t count, int64_t threshold)
+{
+    int32_t greatest = INT32_MIN;
+    for (int64_t place = 0; place < count; place++) {
+        const int32_t number = number_of(numbers[place]);
+        greatest = number > greatest ? number : greatest;
+    }
+    return greatest >= threshold;
+}
+
+/* Finds the pixels of at least a threshold among so many, the first of which has this place, and how many they are. */
+VECTORS
+LOOP void threshold_set(const uint32_t *numbers, const uint32_t *segments, int64_t count, int64_t threshold,
+                        int64_t first, int64_t *places, int32_t *values, int32_t *labels, int64_t *found)
+{
+    int64_t own = 0;
+    for (int64_t begin = 0; begin < count; begin += BLOCK) {
+        const int64_t end = begin + BLOCK < count ? begin + BLOCK : count;
+        if (end - begin == BLOCK && !reach(numbers + begin, BLOCK, threshold))
+            continue;
+        /* Each is put where the next one found stands, which takes no longer than to ask before. */
+        for (int64_t place = begin; place < end; place++) {
+            const int32_t value = number_of(numbers[place]);
+            places[own] = first + place;
+            values[own] = value;
+            labels[own] = number_of(segments[place]);
+            own += value >= threshold;
+        }
+    }
+    *found = own;
+}
+
+/* Behind the last pixel stands one with the least number and the label 0 for all that aren't there. */
+struct pixels {
+    const int64_t *places;
+    const int32_t *values;
+    const int32_t *labels;
+    int64_t count, width;
+};
+
+/* The pixels of a row of the window by their columns, with one column before the first and one behind the last. */
+struct row {
+    int64_t *at;
+    int64_t first;      /* the place of the row's first column */
+    int64_t begin, end; /* which pixels are its own */
+};
+
+/* A row and those beside it. */
+struct rows {
+    struct row above, own, below;
+    int64_t *room;
+};
+
+/* Makes a row, that had others, one with the pixels from one on whose places the window's row has. */
+static inline void fill(const struct pixels *it, struct row *row, int64_t begin, int64_t first)
+{
+    for (int64_t pixel = row->begin; pixel < row->end; pixel++)
+        row->at[it->places[pixel] - row->first + 1] = it->count;
+    row->first = first;
+    row->begin = row->end = begin;
+    for (; row->end < it->count && it->places[row->end] < first + it->width; row->end++)
+        row->at[it->places[row->end] - first + 1] = row->end;
+}
+
+/* The rows about that of a pixel; `room` is for three. */
+static struct rows rows_about(const struct pixels *it, int64_t pixel, int64_t *room)
+{
+    const int64_t wide = it->width + 2, first = pixel < it->count ? it->places[pixel] / it->width * it->width : 0;
+    struct rows rows = {{room, 0, 0, 0}, {room + wide, 0, 0, 0}, {room + 2 * wide, 0, 0, 0}, room};
+    for (int64_t x = 0; x < 3 * wide; x++)
+        room[x] = it->count;
+    int64_t begin = pixel;
+    while (begin > 0 && it->places[begin - 1] >= first - it->width)
+        begin--;
+    fill(it, &rows.above, begin, first - it->width);
+    fill(it, &rows.own, rows.above.end, first);
+    fill(it, &rows.below, rows.own.end, first + it->width);
+    return rows;
+}
+
+/* Goes on to the row of a pixel. */
+static inline void go_on(const struct pixels *it, struct rows *rows, int64_t pixel)
+{
+    const int64_t place = it->places[pixel];
+    if (place < rows->own.first)
+        *rows = rows_about(it, pixel, rows->room);
+    while (place >= rows->own.first + it->width) {
+        const struct row gone = rows->above;
+        rows->above = rows->own;
+        rows->own = rows->below;
+        rows->below = gone;
+        fill(it, &rows->below, rows->own.end, rows->own.first + it->width);
+    }
+}
+
+/* The eight neighbours of a pixel of the row: right, below from left to right, left, and above from right to left. */
+static inline void find_neighbours(const struct pixels *it, const struct rows *rows, int64_t pixel, int64_t found[8])
+{
+    const int64_t left = it->places[pixel] - rows->own.first;
+    const int64_t *above = rows->above.at + left, *own = rows->own.at + left, *below = rows->below.at + left;
+    found[0] = own[2];
+    found[1] = below[0];
+    found[2] = below[1];
+    found[3] = below[2];
+    found[4] = own[0];
+    found[5] = above[2];
+    found[6] = above[1];
+    found[7] = above[0];
+}
+
+/* For each of some pixels, in order, the first of its neighbours with the greatest number, if that is greater than its
+ * own, and else itself. There is room for three rows, each with two columns more. */
+LOOP void uphill(const int64_t *places, const int32_t *values, int64_t count, int64_t width, const int64_t *some,
+                 int64_t how_many, int64_t *room, int64_t *way)
+{
+    const struct pixels it = {places, values, 0, count, width};
+    struct rows rows = rows_about(&it, how_many ? some[0] : count, room);
+    for (int64_t place = 0; place < how_many; place++) {
+        int64_t beside[8], best = some[place];
+        go_on(&it, &rows, best);
+        find_neighbours(&it, &rows, best, beside);
+        for (int at = 0; at < 8; at++)
+            best = values[beside[at]] > values[best] ? beside[at] : best;
+        way[place] = best;
+    }
+}
+
+/* For each of some pixels, in order, the label of the first of its neighbours with the greatest number among those with
+ * a label and a number above the least one, and else 0. There is room for three rows, each with two columns more. */
+LOOP void highest_beside(const int64_t *places, const int32_t *values, const int32_t *labels, int64_t count,
+                         int64_t width, const int64_t *some, int64_t how_many, int64_t *room, int32_t *given)
+{
+    const struct pixels it = {places, values, labels, count, width};
+    struct rows rows = rows_about(&it, how_many ? some[0] : count, room);
+    for (int64_t place = 0; place < how_many; place++) {
+        int64_t beside[8], best = count;
+        go_on(&it, &rows, some[place]);
+        find_neighbours(&it, &rows, some[place], beside);
+        for (int at = 0; at < 8; at++)
+            if (labels[beside[at]] && values[beside[at]] > values[best])
+                best = beside[at];
+        given[place] = labels[best];
+    }
+}
+
+/* Where pixels touch: the labels of both, the lesser first, and the lesser of their numbers. */
+struct touching {
+    int64_t *lesser, *greater, *levels, count;
+};
+
+static inline void touch(const struct pixels *it, struct touching *found, int64_t one, int64_t other)
+{
+    const int32_t label = it->labels[one], its = it->labels[other];
+    if (!label || !its || label == its)
+        return;
+    found->lesser[found->count] = label < its ? label : its;
+    found->greater[found->count] = label < its ? its : label;
+    found->levels[found->count] = it->values[one] < it->values[other] ? it->values[one] : it->values[other];
+    found->count++;
+}
+
+/* All pairs of pixels side by side with two labels that some pixels have with those behind them, at most four each.
+ * There is room for three rows, each with two columns more. */
+LOOP void touching(const int64_t *places, const int32_t *values, const int32_t *labels, int64_t count, int64_t width,
+                   int64_t first, int64_t end, int64_t *room, int64_t *lesser, int64_t *greater, int64_t *levels,
+                   int64_t *found)
+{
+    const struct pixels it = {places, values, labels, count, width};
+    struct touching pairs = {lesser, greater, levels, 0};
+    struct rows rows = rows_about(&it, first, room);
+    for (int64_t pixel = first; pixel < end; pixel++) {
+        go_on(&it, &rows, pixel);
+        const int64_t left = places[pixel] - rows.own.first, *below = rows.below.at + left;
+        touch(&it, &pairs, pixel, rows.own.at[left + 2]);
+        for (int step = 0; step < 3; step++)
+            touch(&it, &pairs, pixel, below[step]);
+    }
+    *found = pairs.count;
+}

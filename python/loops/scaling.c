@@ -1,0 +1,36 @@
+/* From floating-point numbers to the whole numbers that the program reads. */
+#include "loops.h"
+
+#include <float.h>
+#include <math.h>
+
+/* The same loop for wider vectors, where the processor has them. */
+#if defined(__x86_64__) && defined(__GNUC__) && !defined(__clang__)
+#define VECTORS __attribute__((target_clones("avx512f", "avx2", "default")))
+#else
+#define VECTORS
+#endif
+
+/* A number as FITS files have it, its highest byte first. */
+static inline uint32_t stored(int32_t number)
+{
+    const uint32_t bits = (uint32_t)number;
+#if __BYTE_ORDER__ == __ORDER_LITTLE_ENDIAN__
+    return bits >> 24 | (bits >> 8 & 0xff00u) | (bits << 8 & 0xff0000u) | bits << 24;
+#else
+    return bits;
+#endif
+}
+
+/* The nearest whole numbers of so many times the scaled ones, no further from 0 than the greatest, which 32 bits hold;
+ * and the least number of 32 bits for what isn't finite. */
+VECTORS
+LOOP void stored_numbers(const float *scaled, int64_t count, double times, double greatest, uint32_t *numbers)
+{
+    const float by = (float)times, most = (float)greatest;
+    for (int64_t place = 0; place < count; place++) {
+        const float value = scaled[place] * by, nearest = rintf(value);
+        const float high = nearest > -most ? nearest : -most, cut = high < most ? high : most;
+        numbers[place] = stored(fabsf(value) <= FLT_MAX ? (int32_t)cut : INT32_MIN);
+    }
+}
