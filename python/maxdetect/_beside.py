@@ -7,6 +7,7 @@ from typing import Iterable, List, Tuple, Union
 import numpy
 import sep
 
+from ._cells import ranges
 from ._sky import Sky, filled, grown, medians
 
 # How far a source's light reaches beyond its pixels.
@@ -65,11 +66,8 @@ def of_row(
     scaled = residual * numpy.float32(1 / unit)
     lefts = numpy.arange(0, residual.shape[1], mesh)
     area = len(residual) * numpy.diff(lefts, append=residual.shape[1])
-    share = numpy.add.reduceat(numpy.add.reduce(left_out, axis=0, dtype="i4"), lefts, dtype="i8") / area
-    seen = scaled.copy()
-    numpy.copyto(seen, numpy.nan, where=left_out)
-    low = numpy.fmin.reduceat(numpy.fmin.reduce(seen), lefts)
-    high = numpy.fmax.reduceat(numpy.fmax.reduce(seen), lefts)
+    low, high, outside = ranges(scaled, left_out, mesh)
+    share = outside / area
     cells = numpy.array([low, numpy.zeros(len(lefts))])
     cells[:, share > 1 - ENOUGH] = numpy.nan
     for number in numpy.flatnonzero((share <= 1 - ENOUGH) & (low < high)).tolist():

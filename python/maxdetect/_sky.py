@@ -10,9 +10,29 @@ from typing import Any, Callable, Iterator, List, Optional, Tuple
 
 import numpy
 
-# How many deviations off a mean of 3 by 3 pixels shows a source, how far around it its light is looked for, and from
-# where on a pixel isn't noise.
-HOT, REACH, CLIP = 3.5, 3, 5.0
+from ._cells import CLIP, box_sums, cells_along, in_cells, of_row
+from ._loops import Loop, array, flag, whole
+from ._masks import grown
+from ._ranks import PARTS, at_ranks
+
+# Some of these are of other modules, and asked for here.
+__all__ = [
+    "Held",
+    "Sky",
+    "Undefined",
+    "anywhere",
+    "between",
+    "box_sums",
+    "cells_along",
+    "filled",
+    "filtered",
+    "grown",
+    "medians",
+    "of",
+    "quantum",
+    "take_off",
+]
+
 # The part of the deviation that is left where noise alone is looked at so.
 KEPT = 0.997
 # Sampled pixels along a side of a cell, for the first guess.
@@ -34,10 +54,7 @@ class Undefined(ValueError):
 
 Reader = Callable[[slice], numpy.ndarray]
 
-
-def cells_along(side: int, mesh: int) -> int:
-    """How many cells of so many pixels cover a side."""
-    return -(-side // mesh)
+_BETWEEN = Loop("between_centres", array("f8"), *[whole] * 3, array("f4"), *[whole] * 4, flag, array("f8"), array("f4"))
 
 
 def _carried_on_along(grid: numpy.ndarray, axis: int) -> numpy.ndarray:
@@ -126,23 +143,54 @@ def between(grid: numpy.ndarray, mesh: int, rows: slice, columns: slice) -> nump
     """The same, quicker for windows whose columns lie within the grid; the last digit may be another there."""
     if columns.start < 0 or columns.stop > grid.shape[1] * mesh:
         return anywhere(grid, mesh, rows, columns)
+    shape = (rows.stop - rows.start, columns.stop - columns.start)
     if grid.size == 1:
-        return numpy.full((rows.stop - rows.start, columns.stop - columns.start), grid[0, 0], dtype="f4")
+        return numpy.full(shape, grid[0, 0], dtype="f4")
+    if _by_loop(grid):
+        made = numpy.empty(shape, dtype="f4")
+        _go_on(grid, mesh, rows.start, columns.start, made, less=False)
+        return made
     down = _along(grid, mesh, rows, "f8")
     if down.shape[1] == 1:
-        return numpy.repeat(down.astype("f4"), columns.stop - columns.start, axis=1)
+        return numpy.repeat(down.astype("f4"), shape[1], axis=1)
     # Between two centres a row changes by the same step from pixel to pixel. The first piece ends at the first centre.
     padded = _carried_on_along(down, 1)
     start = mesh // 2
-    part = ((numpy.arange(mesh) + (0.5 if mesh % 2 == 0 else 0)) / mesh).astype("f4")
     first, last = (columns.start + mesh - start) // mesh, (columns.stop - 1 + mesh - start) // mesh
-    low = padded[:, first : last + 1].astype("f4")
+    # A zero has no sign, nor has one to which it is added.
+    low = padded[:, first : last + 1].astype("f4") + numpy.float32(0)
     step = (padded[:, first + 1 : last + 2] - padded[:, first : last + 1]).astype("f4")
     # numpy's own product takes twice as long.
-    pixels = numpy.einsum("ij,k->ijk", step, part)
+    pixels = numpy.einsum("ij,k->ijk", step, _parts(mesh))
     pixels += low[:, :, None]
     offset = columns.start - (first * mesh + start - mesh)
-    return pixels.reshape(len(low), -1)[:, offset : offset + columns.stop - columns.start]
+    return pixels.reshape(len(low), -1)[:, offset : offset + shape[1]]
+
+
+def _parts(mesh: int) -> numpy.ndarray:
+    """Which parts of the way to the next centre the pixels lie from the one before."""
+    return ((numpy.arange(mesh) + (0.5 if mesh % 2 == 0 else 0)) / mesh).astype("f4")
+
+
+def _by_loop(grid: numpy.ndarray) -> bool:
+    """Whether a loop knows what lies between the centres of a grid."""
+    return bool(_BETWEEN) and grid.size > 0 and grid.shape[1] > 1
+
+
+def _go_on(grid: numpy.ndarray, mesh: int, top: int, left: int, pixels: numpy.ndarray, less: bool) -> None:
+    """The loop: what `between` tells for a window that begins there, or what its pixels are above that."""
+    room = numpy.empty(grid.shape[1] + 2)
+    grid = numpy.ascontiguousarray(grid, dtype="f8")
+    _BETWEEN(grid, *grid.shape, mesh, _parts(mesh), top, left, *pixels.shape, less, room, pixels)
+
+
+def take_off(pixels: numpy.ndarray, grid: numpy.ndarray, mesh: int, rows: slice) -> numpy.ndarray:
+    """The pixels of some whole rows, as 32-bit floating-point numbers, less what `between` tells there."""
+    if _by_loop(grid) and pixels.flags.c_contiguous:
+        _go_on(grid, mesh, rows.start, 0, pixels, less=True)
+    else:
+        pixels -= between(grid, mesh, rows, slice(0, pixels.shape[1]))
+    return pixels
 
 
 # ---- the first guess: medians of samples
@@ -158,39 +206,21 @@ def quantum(values: numpy.ndarray) -> float:
     return float(numpy.quantile(steps, 0.1)) if len(steps) < len(values) / 4 else 0.0
 
 
-def _in_cells(band: numpy.ndarray, mesh: int, fill) -> numpy.ndarray:
-    """A row of cells, with `fill` in the columns behind its last pixel, as an array of rows, cells, columns."""
-    wide = cells_along(band.shape[1], mesh) * mesh
-    if wide != band.shape[1]:
-        band = numpy.pad(band, [(0, 0), (0, wide - band.shape[1])], constant_values=fill)
-    return band.reshape(len(band), -1, mesh)
-
-
 def _first_row(band: numpy.ndarray, mesh: int, rng: numpy.random.Generator) -> Tuple[numpy.ndarray, ...]:
     """The median of each cell in a row of cells, how far below it a deviation lies, how many pixels were looked at,
     and the step of the values.
     """
     step = max(1, mesh // SAMPLED)
-    sample = _in_cells(band, mesh, numpy.nan)[::step, :, ::step].swapaxes(0, 1)
+    sample = in_cells(band, mesh, numpy.nan)[::step, :, ::step].swapaxes(0, 1)
     sample = sample.reshape(len(sample), -1)
     quant = quantum(sample)
     if quant:
         sample = sample + ((rng.random(sample.shape) - 0.5) * quant).astype(sample.dtype)
-    sample = numpy.sort(numpy.where(numpy.isfinite(sample), sample, sample.dtype.type(numpy.nan)), axis=1)
-    count = numpy.isfinite(sample).sum(axis=1)
-
-    def part(of):
-        return numpy.take_along_axis(
-            sample, numpy.clip((count[:, None] * of).astype(int), 0, sample.shape[1] - 1), axis=1
-        )[:, 0].astype("f8")
-
-    middle = part(0.5)
-    return (
-        middle,
-        _less_rounding(middle - part(0.1587), quant),
-        count,
-        numpy.full(len(count), quant),
-    )
+    finite = numpy.isfinite(sample)
+    count = finite.sum(axis=1)
+    ranks = numpy.clip((count[:, None] * PARTS).astype(int), 0, sample.shape[1] - 1)
+    low, middle = at_ranks(numpy.where(finite, sample, sample.dtype.type(numpy.nan)), ranks).T.astype("f8")
+    return middle, _less_rounding(middle - low, quant), count, numpy.full(len(count), quant)
 
 
 def _less_rounding(deviation: numpy.ndarray, quant: float) -> numpy.ndarray:
@@ -223,87 +253,20 @@ def _guess(rows: list, shape: Tuple[int, int], mesh: int, least: float) -> Tuple
 # ---- the second look: means without sources
 
 
-def _shifted(image: numpy.ndarray, by: int, axis: int) -> Tuple[numpy.ndarray, numpy.ndarray]:
-    """All but the first places of an axis, and all but the last."""
-    return (image[by:], image[:-by]) if axis == 0 else (image[:, by:], image[:, :-by])
-
-
-def box_sums(image: numpy.ndarray) -> numpy.ndarray:
-    """The sum over each pixel and its neighbours, as far as there are some."""
-    for axis in (0, 1):
-        total = image.copy()
-        later, earlier = _shifted(image, 1, axis)
-        to_earlier, to_later = _shifted(total, 1, axis)[::-1]
-        to_earlier += later
-        to_later += earlier
-        image = total
-    return image
-
-
-def grown(mask: numpy.ndarray, reach: int) -> numpy.ndarray:
-    """The mask with all pixels up to so many columns and rows away."""
-    for axis in (0, 1):
-        sides = [side + 2 * reach * (axis == along) for along, side in enumerate(mask.shape)]
-        wide, length = numpy.zeros(sides, dtype=bool), 1
-        inner = slice(reach, reach + mask.shape[axis])
-        wide[(inner, slice(None)) if axis == 0 else (slice(None), inner)] = mask
-        # Whether one of so many pixels is in it, from one of them to all from `reach` before to `reach` behind.
-        while length <= 2 * reach:
-            step = min(length, 2 * reach + 1 - length)
-            later, earlier = _shifted(wide, step, axis)
-            wide, length = later | earlier, length + step
-        mask = wide
-    return mask
-
-
-def _quiet(scaled: numpy.ndarray) -> numpy.ndarray:
-    """Which pixels of a row of cells lie far from sources; it is in units of its noise, 0 where it is undefined."""
-    sums = box_sums(scaled)
-    low, middle = numpy.quantile(sums[::3, ::3], (0.1587, 0.5))
-    # Nine independent pixels have a deviation of three; neighbours that share their noise have more.
-    reach = HOT * max(middle - low, 1.5)
-    hot = sums > middle + reach
-    hot |= sums < middle - reach
-    return ~grown(hot, REACH)
-
-
-def _counts(mask: numpy.ndarray, mesh: int) -> numpy.ndarray:
-    """How many pixels of a mask there are in each cell of a row of cells."""
-    # numpy takes twice as long for sums in 64 bits.
-    columns = numpy.add.reduce(mask, axis=0, dtype="i4")
-    return numpy.add.reduceat(columns, numpy.arange(0, len(columns), mesh), dtype="i8")
-
-
 def _second_row(residual, relative, deviation, quant, mesh):
     """For each cell in a row of cells the mean of the residual, its deviation in units of `relative`, and how many of
     its pixels counted and how many are there. The residual may be changed in place.
     """
-    noise = residual if relative is None else residual / relative
-    finite = numpy.isfinite(noise)
-    if not finite.all():
-        numpy.copyto(noise, 0, where=~finite)
-    with numpy.errstate(divide="ignore"):
-        inverse = numpy.where(deviation > 0, 1 / deviation, 0).astype("f4")
-    scaled = noise * numpy.repeat(inverse, mesh)[: noise.shape[1]]
-    keep = _quiet(scaled)
-    keep &= finite
-    clip = CLIP + 1.5 * float((quant * inverse).max())
-    keep &= scaled < clip
-    keep &= scaled > -clip
-    count = _counts(keep, mesh)
-    keep, noise = _in_cells(keep, mesh, False), _in_cells(noise, mesh, 0)
-    kept = noise * keep
-    mean = kept.sum(axis=0).sum(axis=1, dtype="f8") / numpy.maximum(count, 1)
     # Squares are taken in units of the deviation: 32 bits don't hold those of an image in very small or large units.
     unit = numpy.where(deviation > 0, deviation, 1.0)
-    kept *= (1 / unit).astype("f4")[:, None]
-    square = numpy.einsum("ijk,ijk->j", kept, kept).astype("f8") / numpy.maximum(count, 1)
-    spread = unit * numpy.sqrt(numpy.maximum(square - (mean / unit) ** 2, 0)) / KEPT
-    if relative is not None:
-        mean = (_in_cells(numpy.where(finite, residual, 0), mesh, 0) * keep).sum(
-            axis=(0, 2), dtype="f8"
-        ) / numpy.maximum(count, 1)
-    return mean, spread, count, _counts(finite, mesh)
+    with numpy.errstate(divide="ignore"):
+        inverse = numpy.where(deviation > 0, 1 / deviation, 0).astype("f4")
+    clip = CLIP + 1.5 * float((quant * inverse).max())
+    sums = of_row(residual, relative, inverse, (1 / unit).astype("f4"), clip, mesh)
+    count = numpy.maximum(sums.pixels, 1)
+    square = sums.squares / count - (sums.noise / count / unit) ** 2
+    spread = unit * numpy.sqrt(numpy.maximum(square, 0)) / KEPT
+    return sums.residual / count, spread, sums.pixels, sums.there
 
 
 # ---- the sky of an image
@@ -442,11 +405,11 @@ class _SecondLook(_Look):
     quanta: List[numpy.ndarray]
 
     def __call__(self, numbers: range) -> list:
-        found, columns = [], slice(0, self.shape[1])
+        found = []
         for row in numbers:
             rows = self.rows(row)
             residual = (self.read(rows) - self.zero).astype("f4", copy=False)
-            residual -= between(self.guess, self.mesh, rows, columns)
+            residual = take_off(residual, self.guess, self.mesh, rows)
             relative = None if self.relative is None else self.relative(rows)
             found.append(_second_row(residual, relative, self.deviation[row], self.quanta[row], self.mesh))
         return found
@@ -490,7 +453,7 @@ class _Medians(_Look):
     def __call__(self, numbers: range) -> List[numpy.ndarray]:
         found, step = [], max(1, self.mesh // 8)
         for number in numbers:
-            cells = _in_cells(self.read(self.rows(number)), self.mesh, numpy.nan)[::step, :, ::step].swapaxes(0, 1)
+            cells = in_cells(self.read(self.rows(number)), self.mesh, numpy.nan)[::step, :, ::step].swapaxes(0, 1)
             cells = numpy.sort(cells.reshape(len(cells), -1), axis=1)
             found.append(cells[numpy.arange(len(cells)), numpy.isfinite(cells).sum(axis=1) // 2])
         return found
