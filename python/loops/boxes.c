@@ -11,10 +11,19 @@
 #define VECTORS
 #endif
 
+/* A number that is stored as FITS files have it, its highest byte first. */
+static inline int32_t number_of(uint32_t stored)
+{
+#if __BYTE_ORDER__ == __ORDER_LITTLE_ENDIAN__
+    stored = __builtin_bswap32(stored);
+#endif
+    return (int32_t)stored;
+}
+
 /* An image, which of its pixels are chosen, and what the chosen ones among the rows at work have in each column: how
  * many they are, and their sum. */
 struct columns {
-    const int32_t *image;
+    const uint32_t *image;
     const uint8_t *chosen;
     int64_t height, width;
     int64_t top, bottom; /* the first of the rows at work, and the one behind their last */
@@ -26,12 +35,12 @@ struct columns {
 static inline __attribute__((always_inline)) void count_row(const struct columns *it, int64_t row, int32_t times)
 {
     const int64_t width = it->width;
-    const int32_t *image = it->image + row * width;
+    const uint32_t *image = it->image + row * width;
     const uint8_t *chosen = it->chosen + row * width;
     int32_t *restrict pixels = it->pixels;
     int64_t *restrict totals = it->totals;
     for (int64_t x = 0; x < width; x++) {
-        const int32_t mask = chosen[x] ? -1 : 0, number = image[x] & mask;
+        const int32_t mask = chosen[x] ? -1 : 0, number = number_of(image[x]) & mask;
         pixels[x] -= times * mask;
         totals[x] += times * (int64_t)number;
     }
@@ -80,7 +89,7 @@ static inline int64_t within(int64_t place, int64_t end)
 
 /* For each of some pixels, in the order of their rows, how many of the pixels up to `half` rows and columns away are
  * chosen, as far as the image goes, and their sum. There is room for the columns, and for the corners along a row. */
-LOOP void around_pixels(const int32_t *image, const uint8_t *chosen, int64_t height, int64_t width, int64_t half,
+LOOP void around_pixels(const uint32_t *image, const uint8_t *chosen, int64_t height, int64_t width, int64_t half,
                         const int64_t *rows, const int64_t *columns, int64_t count, int32_t *column_pixels,
                         int64_t *column_totals, int64_t *left_pixels, int64_t *left_totals, int64_t *pixels,
                         int64_t *totals)

@@ -201,3 +201,21 @@ LOOP void touching(const int64_t *places, const int32_t *values, const int32_t *
     }
     *found = pairs.count;
 }
+
+/* Keeps the pixels whose label has an owner, by label 0 for none: their places and values, the owner, and which of them
+ * were shown before. How many they are is told. */
+LOOP void owned(const int64_t *places, const int32_t *values, const int32_t *labels, int64_t count,
+                const uint8_t *shown, const int32_t *owners, int64_t sources, int64_t *own_places, int32_t *own_values,
+                int32_t *own_labels, uint8_t *own_shown, int64_t *found)
+{
+    int64_t own = 0;
+    for (int64_t pixel = 0; pixel < count; pixel++) {
+        const int32_t label = labels[pixel], owner = label > 0 && label < sources ? owners[label] : 0;
+        own_places[own] = places[pixel];
+        own_values[own] = values[pixel];
+        own_labels[own] = owner;
+        own_shown[own] = shown[pixel];
+        own += owner != 0;
+    }
+    *found = own;
+}

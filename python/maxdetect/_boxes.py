@@ -14,7 +14,7 @@ ROWS = 32
 # how many they are; room for pixels and sums down the columns and along a row; and what lies around the pixels.
 _LOOP = Loop(
     "around_pixels",
-    *(array("i4"), array("?"), whole, whole, whole),
+    *(array(">i4"), array("?"), whole, whole, whole),
     *(array("i8"), array("i8"), whole),
     *(array("i4"), array("i8"), array("i8"), array("i8")),
     *(array("i8"), array("i8")),
@@ -44,7 +44,7 @@ def _around(
 ) -> Tuple[numpy.ndarray, numpy.ndarray]:
     """The same by the loop."""
     (height, width), count = image.shape, len(rows)
-    image, chosen = numpy.ascontiguousarray(image, dtype="i4"), numpy.ascontiguousarray(chosen)
+    image, chosen = numpy.ascontiguousarray(image, dtype=">i4"), numpy.ascontiguousarray(chosen)
     at = (numpy.ascontiguousarray(it, dtype="i8") for it in (rows, columns))
     room = (numpy.empty(width + 1, dtype=dtype) for dtype in ("i4", "i8", "i8", "i8"))
     pixels, totals = numpy.empty(count, dtype="i8"), numpy.empty(count, dtype="i8")

@@ -13,6 +13,7 @@ from typing import Callable, Iterator, NamedTuple, Tuple, Union
 import numpy
 
 from . import _boxes as boxes
+from ._loops import Loop, array, number, whole
 from ._pieces import Parts
 from ._sky import grown
 from ._windows import rows_and_columns
@@ -28,6 +29,21 @@ BESIDE, CLOSE, LEAST_SHARE = 2, 1, 0.1
 HALF, LEAST_HALF = 3.5, 8
 # So many rows are at work at a time.
 ROWS = 256
+
+# Numbers, how many they are, the threshold, and whether they lie near components, which becomes whether they lie beside.
+_BESIDE = Loop("beside", array(">i4"), whole, whole, array("?"))
+# Some pixels' counts and sums, how many pixels these are, the least count that tells, and the light.
+_MEAN = Loop("mean_light", array("i8"), array("i8"), whole, number, array("f8"))
+# The numbers of a window, and how many they are; the pixels of its parts, their owners, which are shown, and how many
+# they are; light and variance about those that are shown, how far from one variance to the next, and the threshold; and
+# how many sources and 0 for none there are, and how many pixels of each stand out.
+_STAND_OUT = Loop(
+    "stand_out",
+    *(array(">i4"), whole),
+    *(array("i8"), array("i4"), array("?"), whole),
+    *(array("f8"), array("f8"), whole, whole),
+    *(whole, array("i8")),
+)
 
 
 def reach(width: float) -> int:
@@ -78,8 +94,8 @@ class _Bands:
                 yield own, some
 
     def values(self, rows: slice) -> numpy.ndarray:
-        """The numbers of some rows."""
-        return numpy.asarray(self.numbers[rows], dtype="i4")
+        """The numbers of some rows, as they are worked with."""
+        return numpy.asarray(self.numbers[rows], dtype=">i4" if _BESIDE else "i4")
 
     def near(self, rows: slice, reach: int, shown: bool) -> numpy.ndarray:
         """Which pixels of some rows lie within reach of a component with a source, or of a source's node."""
@@ -92,6 +108,10 @@ class _Bands:
     def beside(self, rows: slice, values: numpy.ndarray, threshold: int) -> numpy.ndarray:
         """Which pixels of some rows, with these numbers, lie beside all components with a source."""
         found = self.near(rows, CLOSE, shown=False)
+        if _BESIDE:
+            found = numpy.ascontiguousarray(found)
+            _BESIDE(values, values.size, threshold, found)
+            return found
         found |= values >= threshold
         found |= values == numpy.iinfo("i4").min
         return ~found
@@ -152,7 +172,36 @@ def kept(
     for here, more in _halos(bands, half, least):
         count[here] += more.pixels
         total[here] += more.total
-    light = numpy.where(count >= least, numpy.maximum(total / numpy.maximum(count, 1), 0), 0)
-    values = numbers.ravel()[parts.places[parts.shown]]
-    stand_out = values >= light + threshold * numpy.sqrt(variance(light))
-    return numpy.bincount(parts.owners[parts.shown], stand_out, len(parts.catalogue) + 1)[1:] >= area
+    light = _light(count, total, least)
+    return _standing_out(numbers, parts, light, variance(light), threshold)[1:] >= area
+
+
+def _light(count: numpy.ndarray, total: numpy.ndarray, least: float) -> numpy.ndarray:
+    """The means of so many pixels with these sums, but not below 0; 0 where there are fewer than the least."""
+    if not _MEAN:
+        return numpy.where(count >= least, numpy.maximum(total / numpy.maximum(count, 1), 0), 0.0)
+    light = numpy.empty(len(count))
+    _MEAN(count, total, len(count), least, light)
+    return light
+
+
+def _standing_out(
+    numbers: numpy.ndarray,
+    parts: Parts,
+    light: numpy.ndarray,
+    variance: Union[float, numpy.ndarray],
+    threshold: int,
+) -> numpy.ndarray:
+    """How many pixels of each source's node, by number, pass the threshold above the light around them, where the noise
+    has this variance.
+    """
+    sources = len(parts.catalogue) + 1
+    if not _STAND_OUT:
+        values = numbers.ravel()[parts.places[parts.shown]]
+        found = values >= light + threshold * numpy.sqrt(variance)
+        return numpy.bincount(parts.owners[parts.shown], found, sources)
+    numbers, variance = numpy.ascontiguousarray(numbers, dtype=">i4"), numpy.ascontiguousarray(variance, dtype="f8")
+    standing, pixels = numpy.zeros(sources, dtype="i8"), (parts.places, parts.owners, parts.shown, len(parts.places))
+    step = int(variance.size > 1)
+    _STAND_OUT(numbers, numbers.size, *pixels, light, variance, step, threshold, sources, standing)
+    return standing

@@ -44,6 +44,14 @@ _UPHILL = Loop("uphill", *_UNLABELLED, row_by_row("i8"), whole, row_by_row("i8")
 _HIGHEST = Loop("highest_beside", *_LABELLED, row_by_row("i8"), whole, row_by_row("i8"), row_by_row("i4"))
 # From which pixel up to which, and room for rows; and labels and levels of the pairs, and how many these are.
 _TOUCHING = Loop("touching", *_LABELLED, whole, whole, *[row_by_row("i8")] * 5)
+# Which pixels are shown, the labels' owners, and how many these are; and places, values, owners and what is shown of
+# the pixels that have one, and how many these are.
+_OWNED = Loop(
+    "owned",
+    *_LABELLED[:-1],
+    *(row_by_row("?"), row_by_row("i4"), whole),
+    *(row_by_row("i8"), row_by_row("i4"), row_by_row("i4"), row_by_row("?"), row_by_row("i8")),
+)
 
 
 class _Pixels:
@@ -56,9 +64,9 @@ class _Pixels:
         for rows in bands(numbers):
             found.append(_threshold_set(numbers[rows], segments[rows], threshold, rows.start * self.width))
             let_go(segments)
-        places, values, labels = (numpy.concatenate(parts) for parts in zip(*found))
-        self.count, self.places = len(places), numpy.append(places, [numpy.iinfo("i8").max] * 3)
-        self.values, self.labels = numpy.append(values, numpy.int32(LEAST)), numpy.append(labels, numpy.int32(0))
+        behind = numpy.full(3, numpy.iinfo("i8").max), numpy.full(1, LEAST, dtype="i4"), numpy.zeros(1, dtype="i4")
+        self.places, self.values, self.labels = (numpy.concatenate(parts) for parts in zip(*found, behind))
+        self.count = len(self.values) - 1
 
     def _in_row(self, places: numpy.ndarray, inside: List[numpy.ndarray]) -> List[numpy.ndarray]:
         """Which pixels those of a row are that stand left of some places, in them and right of them, where these are
@@ -126,6 +134,20 @@ class _Pixels:
             value = numpy.where(its != 0, self.values[beside], LEAST)
             label, best = numpy.where(value > best, its, label), numpy.maximum(best, value)
         return label
+
+    def owned(self, owner: numpy.ndarray, shown: numpy.ndarray) -> Tuple[numpy.ndarray, ...]:
+        """Places and values of the pixels whose source has an owner that isn't 0, these owners, and which of the pixels
+        are shown.
+        """
+        if not _OWNED:
+            labels = owner[self.labels[:-1]]
+            chosen = labels != 0
+            return self.places[:-3][chosen], self.values[:-1][chosen], labels[chosen], shown[chosen]
+        found = [numpy.empty(self.count, dtype=dtype) for dtype in ("i8", "i4", "i4", "?")]
+        count = numpy.empty(1, dtype="i8")
+        _OWNED(*self.labelled[:-1], shown, owner, len(owner), *found, count)
+        places, values, owners, its = (them[: count[0]] for them in found)
+        return places, values, owners, its
 
     def met(self) -> Iterator[numpy.ndarray]:
         """Of pairs of pixels side by side that belong to two sources the lesser number of these, the greater one, and
@@ -338,14 +360,13 @@ def sources(
     if least > 0 and meetings.ones:
         light = _Light(pixels, numpy.array([meetings.ones, meetings.others]), count)
         owner = _owners(meetings, light, count, significance, least, patch)
-    labels = owner.astype("i4")[pixels.labels[:-1]]
-    chosen = labels != 0
-    parts = Parts(catalogue, pixels.places[:-3][chosen], labels[chosen], own[chosen], components)
+    places, values, owners, shown = pixels.owned(owner.astype("i4"), own)
+    parts = Parts(catalogue, places, owners, shown, components)
     if (owner == numpy.arange(count + 1)).all():
         return parts
     several = numpy.flatnonzero(numpy.bincount(owner[1:], minlength=count + 1) > 1)
     bases = _levels(meetings, owner)
-    return _with_changed(parts, owner, *_changed(numbers, pixels.values[:-1][chosen], parts, several, bases))
+    return _with_changed(parts, owner, *_changed(numbers, values, parts, several, bases))
 
 
 def _levels(meetings: _Meetings, owner: numpy.ndarray) -> Dict[int, int]:

@@ -1,0 +1,60 @@
+/* Which pixels lie beside all sources, and which ones of a source stand out above the light that these have. */
+#include "loops.h"
+
+#include <math.h>
+
+/* The same loop for wider vectors, where the processor has them. */
+#if defined(__x86_64__) && defined(__GNUC__) && !defined(__clang__)
+#define VECTORS __attribute__((target_clones("avx512f", "avx2", "default")))
+#else
+#define VECTORS
+#endif
+
+/* A number that is stored as FITS files have it, its highest byte first. */
+static inline int32_t number_of(uint32_t stored)
+{
+#if __BYTE_ORDER__ == __ORDER_LITTLE_ENDIAN__
+    stored = __builtin_bswap32(stored);
+#endif
+    return (int32_t)stored;
+}
+
+/* Of pixels that lie near components, or not, tells which ones lie beside all of them: not near one, defined and below
+ * the threshold. */
+VECTORS
+LOOP void beside(const uint32_t *numbers, int64_t count, int64_t threshold, uint8_t *mask)
+{
+    const int32_t most = threshold > INT32_MAX ? INT32_MAX : threshold <= INT32_MIN ? INT32_MIN : threshold - 1;
+    for (int64_t place = 0; place < count; place++) {
+        const int32_t number = number_of(numbers[place]);
+        mask[place] = !mask[place] & (number <= most) & (number != INT32_MIN);
+    }
+}
+
+/* The mean of so many pixels with these sums, where they are at least so many, but not below 0; and else 0. */
+LOOP void mean_light(const int64_t *pixels, const int64_t *totals, int64_t count, double least, double *light)
+{
+    for (int64_t place = 0; place < count; place++) {
+        const double mean = (double)totals[place] / (double)(pixels[place] > 1 ? pixels[place] : 1);
+        light[place] = (double)pixels[place] >= least && mean > 0 ? mean : 0;
+    }
+}
+
+/* How many of its pixels that are shown each source has that stand a threshold, times the root of the variance there,
+ * above the light around: for each of these pixels alone there are light and variance, but where `step` is 0 only one
+ * variance. Of `size` numbers and `sources` sources are the pixels; others don't count. */
+LOOP void stand_out(const uint32_t *numbers, int64_t size, const int64_t *places, const int32_t *owners,
+                    const uint8_t *shown, int64_t count, const double *light, const double *variance, int64_t step,
+                    int64_t threshold, int64_t sources, int64_t *standing)
+{
+    int64_t next = 0;
+    for (int64_t pixel = 0; pixel < count; pixel++) {
+        if (!shown[pixel])
+            continue;
+        const double limit = light[next] + (double)threshold * sqrt(variance[next * step]);
+        const int64_t place = places[pixel], owner = owners[pixel];
+        next++;
+        if (place >= 0 && place < size && owner >= 0 && owner < sources)
+            standing[owner] += number_of(numbers[place]) >= limit;
+    }
+}
