@@ -1,6 +1,7 @@
 /* Sums over boxes of an image around some of its pixels, in whole numbers: they run down the columns and then along the
  * row, so that no table has the image's size. */
 #include "loops.h"
+#include "stored.h"
 
 #include <string.h>
 
@@ -10,15 +11,6 @@
 #else
 #define VECTORS
 #endif
-
-/* A number that is stored as FITS files have it, its highest byte first. */
-static inline int32_t number_of(uint32_t stored)
-{
-#if __BYTE_ORDER__ == __ORDER_LITTLE_ENDIAN__
-    stored = __builtin_bswap32(stored);
-#endif
-    return (int32_t)stored;
-}
 
 /* An image, which of its pixels are chosen, and what the chosen ones among the rows at work have in each column: how
  * many they are, and their sum. */

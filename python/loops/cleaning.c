@@ -1,5 +1,6 @@
 /* Which pixels lie beside all sources, and which ones of a source stand out above the light that these have. */
 #include "loops.h"
+#include "stored.h"
 
 #include <math.h>
 
@@ -9,15 +10,6 @@
 #else
 #define VECTORS
 #endif
-
-/* A number that is stored as FITS files have it, its highest byte first. */
-static inline int32_t number_of(uint32_t stored)
-{
-#if __BYTE_ORDER__ == __ORDER_LITTLE_ENDIAN__
-    stored = __builtin_bswap32(stored);
-#endif
-    return (int32_t)stored;
-}
 
 /* Of pixels that lie near components, or not, tells which ones lie beside all of them: not near one, defined and below
  * the threshold. */

@@ -1,6 +1,7 @@
 /* The pixels of a window's threshold set, row by row: each has a place in the window, a number and a label, which is
  * that of its source, or 0. Pixels side by side are found by going through its row, the one above and the one below. */
 #include "loops.h"
+#include "stored.h"
 
 /* The same loop for wider vectors, where the processor has them. */
 #if defined(__x86_64__) && defined(__GNUC__) && !defined(__clang__)
@@ -11,15 +12,6 @@
 
 /* Of so many pixels one is looked for at once. */
 enum { BLOCK = 32 };
-
-/* A number that is stored as FITS files have it, its highest byte first. */
-static inline int32_t number_of(uint32_t stored)
-{
-#if __BYTE_ORDER__ == __ORDER_LITTLE_ENDIAN__
-    stored = __builtin_bswap32(stored);
-#endif
-    return (int32_t)stored;
-}
 
 /* Whether some numbers reach a threshold. */
 static inline __attribute__((always_inline)) int reach(const uint32_t *numbers, int64_t count, int64_t threshold)

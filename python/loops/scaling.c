@@ -1,5 +1,6 @@
 /* From floating-point numbers to the whole numbers that the program reads. */
 #include "loops.h"
+#include "stored.h"
 
 #include <float.h>
 #include <math.h>
@@ -10,17 +11,6 @@
 #else
 #define VECTORS
 #endif
-
-/* A number as FITS files have it, its highest byte first. */
-static inline uint32_t stored(int32_t number)
-{
-    const uint32_t bits = (uint32_t)number;
-#if __BYTE_ORDER__ == __ORDER_LITTLE_ENDIAN__
-    return bits >> 24 | (bits >> 8 & 0xff00u) | (bits << 8 & 0xff0000u) | bits << 24;
-#else
-    return bits;
-#endif
-}
 
 /* The nearest whole numbers of so many times the scaled ones, no further from 0 than the greatest, which 32 bits hold;
  * and the least number of 32 bits for what isn't finite. */
