@@ -10,8 +10,9 @@
 #define VECTORS
 #endif
 
-/* Of so many pixels one is looked for at once. */
-enum { BLOCK = 32 };
+/* Of so many pixels one is looked for at once; and so many rows further on it is sooner to look for a row's pixels than
+ * to go through those before. */
+enum { BLOCK = 32, FAR = 4 };
 
 /* Whether some numbers reach a threshold. */
 static inline __attribute__((always_inline)) int reach(const uint32_t *numbers, int64_t count, int64_t threshold)
@@ -64,7 +65,6 @@ struct row {
 /* A row and those beside it. */
 struct rows {
     struct row above, own, below;
-    int64_t *room;
 };
 
 /* Makes a row, that had others, one with the pixels from one on whose places the window's row has. */
@@ -78,28 +78,44 @@ static inline void fill(const struct pixels *it, struct row *row, int64_t begin,
         row->at[it->places[row->end] - first + 1] = row->end;
 }
 
-/* The rows about that of a pixel; `room` is for three. */
-static struct rows rows_about(const struct pixels *it, int64_t pixel, int64_t *room)
+/* Rows without pixels, far above the window; `room` is for three. */
+static struct rows no_rows(const struct pixels *it, int64_t *room)
 {
-    const int64_t wide = it->width + 2, first = pixel < it->count ? it->places[pixel] / it->width * it->width : 0;
-    struct rows rows = {{room, 0, 0, 0}, {room + wide, 0, 0, 0}, {room + 2 * wide, 0, 0, 0}, room};
+    const int64_t wide = it->width + 2, first = -FAR * it->width;
     for (int64_t x = 0; x < 3 * wide; x++)
         room[x] = it->count;
-    int64_t begin = pixel;
-    while (begin > 0 && it->places[begin - 1] >= first - it->width)
-        begin--;
-    fill(it, &rows.above, begin, first - it->width);
-    fill(it, &rows.own, rows.above.end, first);
-    fill(it, &rows.below, rows.own.end, first + it->width);
-    return rows;
+    return (struct rows){{room, first, 0, 0}, {room + wide, first, 0, 0}, {room + 2 * wide, first, 0, 0}};
+}
+
+/* The first pixel whose place isn't before another. */
+static int64_t not_before(const struct pixels *it, int64_t place)
+{
+    int64_t begin = 0, end = it->count;
+    while (begin < end) {
+        const int64_t middle = begin + (end - begin) / 2;
+        if (it->places[middle] < place)
+            begin = middle + 1;
+        else
+            end = middle;
+    }
+    return begin;
+}
+
+/* Goes to the row of a place, wherever that is. */
+static void jump(const struct pixels *it, struct rows *rows, int64_t place)
+{
+    const int64_t first = place / it->width * it->width;
+    fill(it, &rows->above, not_before(it, first - it->width), first - it->width);
+    fill(it, &rows->own, rows->above.end, first);
+    fill(it, &rows->below, rows->own.end, first + it->width);
 }
 
 /* Goes on to the row of a pixel. */
 static inline void go_on(const struct pixels *it, struct rows *rows, int64_t pixel)
 {
     const int64_t place = it->places[pixel];
-    if (place < rows->own.first)
-        *rows = rows_about(it, pixel, rows->room);
+    if (place < rows->own.first || place >= rows->own.first + FAR * it->width)
+        jump(it, rows, place);
     while (place >= rows->own.first + it->width) {
         const struct row gone = rows->above;
         rows->above = rows->own;
@@ -130,7 +146,7 @@ LOOP void uphill(const int64_t *places, const int32_t *values, int64_t count, in
                  int64_t how_many, int64_t *room, int64_t *way)
 {
     const struct pixels it = {places, values, 0, count, width};
-    struct rows rows = rows_about(&it, how_many ? some[0] : count, room);
+    struct rows rows = no_rows(&it, room);
     for (int64_t place = 0; place < how_many; place++) {
         int64_t beside[8], best = some[place];
         go_on(&it, &rows, best);
@@ -147,7 +163,7 @@ LOOP void highest_beside(const int64_t *places, const int32_t *values, const int
                          int64_t width, const int64_t *some, int64_t how_many, int64_t *room, int32_t *given)
 {
     const struct pixels it = {places, values, labels, count, width};
-    struct rows rows = rows_about(&it, how_many ? some[0] : count, room);
+    struct rows rows = no_rows(&it, room);
     for (int64_t place = 0; place < how_many; place++) {
         int64_t beside[8], best = count;
         go_on(&it, &rows, some[place]);
@@ -183,7 +199,7 @@ LOOP void touching(const int64_t *places, const int32_t *values, const int32_t *
 {
     const struct pixels it = {places, values, labels, count, width};
     struct touching pairs = {lesser, greater, levels, 0};
-    struct rows rows = rows_about(&it, first, room);
+    struct rows rows = no_rows(&it, room);
     for (int64_t pixel = first; pixel < end; pixel++) {
         go_on(&it, &rows, pixel);
         const int64_t left = places[pixel] - rows.own.first, *below = rows.below.at + left;

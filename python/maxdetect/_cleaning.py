@@ -13,7 +13,7 @@ from typing import Callable, Iterator, NamedTuple, Tuple, Union
 import numpy
 
 from . import _boxes as boxes
-from ._loops import Loop, array, number, whole
+from ._loops import Loop, array, number as real, whole
 from ._pieces import Parts
 from ._sky import grown
 from ._windows import rows_and_columns
@@ -30,10 +30,10 @@ HALF, LEAST_HALF = 3.5, 8
 # So many rows are at work at a time.
 ROWS = 256
 
-# Numbers, how many they are, the threshold, and whether they lie near components, which becomes whether they lie beside.
+# Numbers, how many they are, the threshold, and whether they lie near components: instead whether they lie beside all.
 _BESIDE = Loop("beside", array(">i4"), whole, whole, array("?"))
 # Some pixels' counts and sums, how many pixels these are, the least count that tells, and the light.
-_MEAN = Loop("mean_light", array("i8"), array("i8"), whole, number, array("f8"))
+_MEAN = Loop("mean_light", array("i8"), array("i8"), whole, real, array("f8"))
 # The numbers of a window, and how many they are; the pixels of its parts, their owners, which are shown, and how many
 # they are; light and variance about those that are shown, how far from one variance to the next, and the threshold; and
 # how many sources and 0 for none there are, and how many pixels of each stand out.
