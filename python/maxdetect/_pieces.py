@@ -25,7 +25,7 @@ __all__ = ["Parts", "Significance", "sources"]
 Significance = Callable[[int, float, int], float]
 # So many pixels are at work at a time.
 CACHED = 2**16
-LEAST = numpy.iinfo("i4").min
+LEAST, GREATEST = numpy.iinfo("i4").min, numpy.iinfo("i4").max
 # By how many rows and columns the neighbours behind a pixel lie further on.
 BEHIND = [(0, 1), (1, -1), (1, 0), (1, 1)]
 
@@ -52,6 +52,8 @@ _OWNED = Loop(
     *(row_by_row("?"), row_by_row("i4"), whole),
     *(row_by_row("i8"), row_by_row("i4"), row_by_row("i4"), row_by_row("?"), row_by_row("i8")),
 )
+# Which labels are chosen, and how many labels there are; and a number for each of their pixels, and how many these are.
+_KEYS = Loop("light_keys", *_LABELLED[1:-1], row_by_row("?"), whole, row_by_row("i8"), row_by_row("i8"))
 
 
 class _Pixels:
@@ -270,17 +272,28 @@ def _components(meetings: _Meetings, count: int) -> numpy.ndarray:
     return numpy.array([of(part) for part in range(count + 1)])
 
 
+def _keys(pixels: _Pixels, chosen: numpy.ndarray) -> numpy.ndarray:
+    """One number for each pixel of the chosen parts, so that they are sorted at once: its part, and the less the greater
+    its number is.
+    """
+    if not _KEYS:
+        inside = chosen[pixels.labels[:-1]]
+        labels, values = pixels.labels[:-1][inside], pixels.values[:-1][inside]
+        return (labels.astype("i8") << 32) + (GREATEST - values.astype("i8"))
+    keys, count = numpy.empty(pixels.count, dtype="i8"), numpy.empty(1, dtype="i8")
+    _KEYS(*pixels.labelled[1:-1], chosen, len(chosen), keys, count)
+    return keys[: count[0]]
+
+
 class _Light:
     """How many pixels of some parts stand above a level, and how much light they have there."""
 
     def __init__(self, pixels: _Pixels, parts: numpy.ndarray, count: int):
-        labels, values = pixels.labels[:-1], pixels.values[:-1]
-        inside = numpy.isin(numpy.arange(count + 1), parts)[labels]
-        # One number for a pixel, so that they are sorted at once: its part, and the less the greater its number is.
-        greatest = numpy.iinfo("i4").max
-        keys = (labels[inside].astype("i8") << 32) + (greatest - values[inside].astype("i8"))
+        chosen = numpy.zeros(count + 1, dtype=bool)
+        chosen[parts] = True
+        keys = _keys(pixels, chosen)
         keys.sort()
-        falling = (keys & (2**32 - 1)) - greatest
+        falling = (keys & (2**32 - 1)) - GREATEST
         # As Python's own arrays, since parts are asked for one by one.
         self.falling, self.sums = array.array("q", falling.tobytes()), array.array("q", bytes(8))
         self.sums.frombytes((-numpy.cumsum(falling)).tobytes())
