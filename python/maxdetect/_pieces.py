@@ -273,8 +273,8 @@ def _components(meetings: _Meetings, count: int) -> numpy.ndarray:
 
 
 def _keys(pixels: _Pixels, chosen: numpy.ndarray) -> numpy.ndarray:
-    """One number for each pixel of the chosen parts, so that they are sorted at once: its part, and the less the greater
-    its number is.
+    """One number for each pixel of the chosen parts, so that they are sorted at once: its part, and the less the
+    greater its number is.
     """
     if not _KEYS:
         inside = chosen[pixels.labels[:-1]]
