@@ -4,7 +4,7 @@ They are told from the image itself: among its bright sources those of one size 
 galaxies, which are wider, and of cosmic rays, which are narrower.
 """
 import dataclasses
-from typing import Iterable, Optional, Tuple, Union
+from typing import Iterable, List, Optional, Tuple, Union
 
 import numpy
 import sep
@@ -61,13 +61,31 @@ def _growth(image: numpy.ndarray, undefined: numpy.ndarray, limit: float) -> num
     numbers = numpy.flatnonzero(inside)
     numbers = numbers[numpy.argsort(-sources["flux"][numbers], kind="stable")][:MOST]
     x, y, _ = sep.winpos(image, sources["x"][numbers], sources["y"][numbers], numpy.full(len(numbers), 1.0))
-    alone = {"seg_id": (numbers + 1).astype("i4"), "segmap": segments, "mask": undefined}
+    # SEP takes two thirds of the time where it need not look at the map of sources for each pixel of each circle.
+    others, light = undefined | (segments != 0), []
+    for number, at in zip(numbers.tolist(), zip(x.tolist(), y.tolist())):
+        left, right, top, bottom = (int(sources[name][number]) for name in ("xmin", "xmax", "ymin", "ymax"))
+        box = slice(top, bottom + 1), slice(left, right + 1)
+        seen = others[box].copy()
+        others[box] &= undefined[box] | (segments[box] != number + 1)
+        light += _circles(image, others, *at)
+        others[box] = seen
+    return numpy.array(light).reshape(-1, len(RADII))
+
+
+def _circles(image: numpy.ndarray, others: numpy.ndarray, x: float, y: float) -> List[numpy.ndarray]:
+    """The light of a source within each of `RADII`, without the pixels of others; of one that stands alone, else
+    nothing.
+    """
+    light: List[numpy.ndarray] = []
     small = int(numpy.searchsorted(RADII, NEAR))
-    sums = [sep.sum_circle(image, x, y, radius, subpix=0, **alone) for radius in RADII[:small]]
-    whole = numpy.all([(told & sep.APER_HASMASKED) == 0 for _, _, told in sums], axis=0)
-    x, y, alone["seg_id"] = x[whole], y[whole], alone["seg_id"][whole]
-    more = [sep.sum_circle(image, x, y, radius, subpix=0, **alone)[0] for radius in RADII[small:]]
-    return numpy.array([*(flux[whole] for flux, _, _ in sums), *more]).T
+    for radii in (RADII[:small], RADII[small:]):
+        places = (numpy.full(len(radii), place) for place in (x, y))
+        flux, _, told = sep.sum_circle(image, *places, radii, subpix=0, mask=others)
+        if not light and (told & sep.APER_HASMASKED).any():
+            return []
+        light.append(flux)
+    return [numpy.concatenate(light)]
 
 
 def _most_common(values: numpy.ndarray) -> float:

@@ -1,6 +1,7 @@
 """The width of point sources and how their light grows, told from images."""
 import numpy
 import pytest
+import sep
 from conftest import add_star
 from scipy import ndimage
 
@@ -107,6 +108,22 @@ def test_windows_and_undefined_pixels():
     image[numpy.random.default_rng(6).random(image.shape) < 0.01] = numpy.nan
     with_gaps = told(image)
     assert with_gaps is None or with_gaps.width == pytest.approx(whole.width, rel=0.1)
+
+
+def test_pixels_of_others_are_left_out_as_by_the_map_of_sources():
+    image = with_stars(3.0, count=150, side=500, seed=8).astype("f4")
+    undefined = numpy.random.default_rng(9).random(image.shape) < 2e-4
+    image[undefined] = 0
+    found = pointlike._growth(image, undefined, 2000.0)
+    assert 10 <= len(found) < pointlike.MOST
+    sources, segments = sep.extract(
+        image, pointlike.BRIGHT, minarea=pointlike.LEAST_AREA, mask=undefined, filter_kernel=None, segmentation_map=True
+    )
+    numbers = numpy.arange(len(sources))
+    x, y, _ = sep.winpos(image, sources["x"], sources["y"], numpy.full(len(numbers), 1.0))
+    alone = {"seg_id": (numbers + 1).astype("i4"), "segmap": segments, "mask": undefined}
+    light = numpy.array([sep.sum_circle(image, x, y, radius, subpix=0, **alone)[0] for radius in pointlike.RADII]).T
+    assert {it.tobytes() for it in found} <= {it.tobytes() for it in light}
 
 
 def test_the_value_around_which_most_lie():
