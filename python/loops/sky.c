@@ -49,9 +49,9 @@ static inline void go_on(float first, float step, const float *restrict part, in
             pixels[x] = step * part[x] + first;
 }
 
-/* The numbers at the pixels of a window whose columns lie within the grid; or the pixels less these. Between two centres
- * a row changes by the same step from pixel to pixel; the first piece ends at the first centre. There is room for a row
- * of the grid and two more. */
+/* The numbers at the pixels of a window whose columns lie within the grid, or the pixels less these. Between two
+ * centres a row changes by the same step from pixel to pixel; the first piece ends at the first centre. There is room
+ * for a row of the grid and two more. */
 VECTORS LOOP void between_centres(const double *numbers, int64_t rows, int64_t columns, int64_t mesh, const float *part,
                                   int64_t top, int64_t left, int64_t height, int64_t width, int32_t less, double *room,
                                   float *pixels)
@@ -66,7 +66,7 @@ VECTORS LOOP void between_centres(const double *numbers, int64_t rows, int64_t c
             int64_t from = begin > 0 ? begin : 0, end = begin + mesh < width ? begin + mesh : width;
             /* A zero has no sign, nor has one to which it is added. */
             float first = (float)room[piece] + 0.0f, step = (float)(room[piece + 1] - room[piece]);
-            go_on(first, step, part + from - begin, end - from, less, pixels + y * width + from);
+            go_on(first, step, part + (from - begin), end - from, less, pixels + y * width + from);
         }
     }
 }
