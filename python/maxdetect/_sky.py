@@ -196,10 +196,18 @@ def take_off(pixels: numpy.ndarray, grid: numpy.ndarray, mesh: int, rows: slice)
 # ---- the first guess: medians of samples
 
 
+def _some_finite(values: numpy.ndarray, count: int) -> numpy.ndarray:
+    """So many of the first numbers that are finite, or all where there are fewer."""
+    for some in (values[: 2 * count], values):
+        found = some[numpy.isfinite(some)][:count]
+        if len(found) == count:
+            break
+    return found
+
+
 def quantum(values: numpy.ndarray) -> float:
     """The step between an image's values, told from some of them; 0 where they come in no steps."""
-    values = values.ravel()
-    values = values[numpy.isfinite(values)][:4000]
+    values = _some_finite(values.ravel(), 4000)
     steps = numpy.diff(numpy.unique(values))
     if not steps.size:
         return 0.0
