@@ -13,12 +13,13 @@ sky in each aperture.
 """
 import dataclasses
 import functools
-from typing import Callable, Dict, Optional, Sequence, Tuple, Union
+from typing import Dict, Optional, Sequence, Tuple, Union
 
 import numpy
 import sep
 
-from . import _beside as beside, _boxes as boxes, _shapes as shapes, _totals as totals
+from . import _beside as beside, _shapes as shapes, _totals as totals
+from ._apertures import Apertures, Fluxes
 from ._beside import unit_of
 from ._docs import described
 from ._errors import Mistake
@@ -51,8 +52,6 @@ __all__ = [
 # The Kron radius is sought within this many standard deviations of a source's light, as Source Extractor does; how many
 # Kron radii its ellipse reaches, and how many standard deviations at least, where nothing else is asked.
 KRON_REACH, KRON = 6.0, (2.5, 3.5)
-# Undefined pixels are first looked for in squares of so many pixels along a side.
-COARSE = 8
 # The diameter of the circular aperture in pixels.
 APERTURE = 10.0
 
@@ -293,88 +292,10 @@ def _gathered(pixels: _Pixels, residual: numpy.ndarray, catalogue: Rows) -> nump
     return numpy.sqrt(numpy.where(numpy.isfinite(mean), numpy.minimum(2 * mean, 1), 1))
 
 
-def _half_light(residual, x, y, reach, flux, alone) -> numpy.ndarray:
-    """The radii that hold half of these fluxes, sought close to the centres first, since that is quicker."""
-    half, _ = sep.flux_radius(residual, x, y, 0.4 * reach, 0.5, normflux=flux, subpix=3, **alone)
-    further = numpy.flatnonzero(half >= 0.39 * reach)
-    if further.size:
-        again = {**alone, "seg_id": alone["seg_id"][further]}
-        half[further], _ = sep.flux_radius(
-            residual, x[further], y[further], reach[further], 0.5, normflux=flux[further], subpix=3, **again
-        )
-    return half
-
-
-def _diameter(residual, x, y, reach, flux, alone) -> numpy.ndarray:
+def _diameter(apertures: Apertures, reach: numpy.ndarray, flux: numpy.ndarray) -> numpy.ndarray:
     """The diameters that hold half of these fluxes; NaN where there is none."""
-    half = _half_light(residual, x, y, reach, numpy.nan_to_num(flux), alone)
+    half = apertures.half_radius(reach, numpy.nan_to_num(flux))
     return numpy.where((flux > 0) & (half > 0), 2 * half, numpy.nan)
-
-
-class _Holes:
-    """The undefined pixels of an image, and which sources have one near them."""
-
-    def __init__(self, undefined: numpy.ndarray):
-        self.undefined = undefined
-        self._sums = None
-        if undefined.any():
-            (height, width), (down, across) = undefined.shape, (-(-side // COARSE) for side in undefined.shape)
-            squares = numpy.zeros((down * COARSE, across * COARSE), dtype=bool)
-            squares[:height, :width] = undefined
-            squares = squares.reshape(down, COARSE, -1).any(axis=1).reshape(down, across, COARSE).any(axis=2)
-            self._sums = boxes.sums(squares, "i4")
-
-    @functools.cached_property
-    def images(self) -> Tuple[numpy.ndarray, numpy.ndarray]:
-        """Images as SEP takes them: 1 at undefined pixels and else 0, and 1 everywhere."""
-        return self.undefined, numpy.ones(self.undefined.shape, dtype=bool)
-
-    def near(self, x: numpy.ndarray, y: numpy.ndarray, reach: numpy.ndarray) -> numpy.ndarray:
-        """The places of all sources that have one so near their centres, by columns and rows, and of some that have one
-        a little further off.
-        """
-        if self._sums is None:
-            return numpy.zeros(0, dtype=int)
-        bounds = []
-        for centre, side in zip((y, x), self.undefined.shape):
-            low, high = numpy.floor(centre - reach) - 1, numpy.ceil(centre + reach) + 2
-            bounds.append(numpy.clip(low, 0, side).astype(int) // COARSE)
-            bounds.append(-(-numpy.clip(high, 0, side).astype(int) // COARSE))
-        return numpy.flatnonzero(boxes.within(self._sums, *bounds))
-
-
-class _Apertures:
-    """Sums in apertures of sources. Pixels of other sources count as sky there, and undefined ones, which are 0 in the
-    residual, as the mean of all others. `sums` is a function of SEP with what it wants behind the image, a number for
-    each source, and none reaches further than `reach` from its centre; each sum depends on the pixels in its aperture
-    alone.
-    """
-
-    def __init__(self, sums: Callable, places: tuple, reach: numpy.ndarray, subpix: int):
-        self.sums, self.places, self.reach, self.subpix = sums, places, reach, subpix
-
-    def _sum(self, image, chosen=slice(None), **how):
-        return self.sums(image, *(it[chosen] for it in self.places), subpix=self.subpix, **how)
-
-    def fluxes(
-        self, residual, noise, gain, holes, alone
-    ) -> Tuple[numpy.ndarray, numpy.ndarray, numpy.ndarray, numpy.ndarray]:
-        """Fluxes, their errors, SEP's flags, and which apertures have undefined pixels; fluxes are NaN where no pixel
-        has a value.
-        """
-        flux, error, told = self._sum(residual, err=noise, **alone)
-        holed, near = numpy.zeros(len(flux), dtype=bool), holes.near(*self.places[:2], self.reach)
-        if near.size:
-            unseen = self._sum(holes.images[0], near)[0]
-            unseen, near = unseen[unseen > 0], near[unseen > 0]
-            area = self._sum(holes.images[1], near)[0]
-            with numpy.errstate(divide="ignore", invalid="ignore"):
-                times = numpy.where(area > unseen, area / (area - unseen), numpy.nan)
-            flux[near], error[near], holed[near] = flux[near] * times, error[near] * numpy.sqrt(times), True
-        if gain:
-            error = numpy.sqrt(error**2 + numpy.maximum(flux, 0) / gain)
-        lost = (told & sep.APER_ALLMASKED) != 0
-        return numpy.where(lost, numpy.nan, flux), numpy.where(lost, numpy.nan, error), told, holed
 
 
 @described
@@ -496,59 +417,58 @@ def _in_units(name: str, values: numpy.ndarray, unit: float) -> numpy.ndarray:
 
 
 class _Sums:
-    """The sums of SEP's in apertures of sources, and what they tell. `gathered` says by how much closer the light of
-    each lies than its pixels do, and `kron` how far its Kron ellipse reaches.
+    """The sums in apertures of sources, and what they tell. `gathered` says by how much closer the light of each lies
+    than its pixels do, and `kron` how far its Kron ellipse reaches.
     """
 
     def __init__(self, scene: shapes.Scene, catalogue: Rows, gathered: numpy.ndarray, kron: Tuple[float, float]):
-        self._scene, self._holes = scene, _Holes(scene.undefined)
-        self._alone = {"segmap": scene.segments, "seg_id": numpy.asarray(catalogue["NUMBER"], dtype="i4")}
-        self._x, self._y = (numpy.asarray(catalogue[name], dtype="f8") / 1000 - 1 for name in ("XCEN", "YCEN"))
+        self._gain = scene.gain
+        x, y = (numpy.asarray(catalogue[name], dtype="f8") / 1000 - 1 for name in ("XCEN", "YCEN"))
+        seen = (scene.residual, scene.noise, scene.undefined, scene.segments)
+        self._apertures = Apertures(*seen, numpy.asarray(catalogue["NUMBER"], dtype="i4"), x, y)
         self._ellipses = ellipses(catalogue)
         long, short, _ = self._ellipses
         # SEP takes standard deviations along the axes, which are half of the half axes, and radians.
         self._axes = (long / 2 * gathered, short / 2 * gathered)
         self._kron(kron)
 
-    def _fluxes(self, apertures: "_Apertures"):
-        scene = self._scene
-        return apertures.fluxes(scene.residual, scene.noise, scene.gain, self._holes, self._alone)
+    def _with_error(self, fluxes: Fluxes) -> totals.Fluxes:
+        """Fluxes and their errors, with the light's own where the gain is known."""
+        flux, error = fluxes.flux, fluxes.error
+        return flux, numpy.sqrt(error**2 + numpy.maximum(flux, 0) / self._gain) if self._gain else error
 
     def _kron(self, kron: Tuple[float, float]) -> None:
         """The Kron ellipses, and what is in them."""
         angle = numpy.clip(numpy.radians(self._ellipses[2]), -numpy.pi / 2, numpy.pi / 2)
-        shape = (self._x, self._y, *self._axes, angle)
-        radius, _ = sep.kron_radius(self._scene.residual, *shape, KRON_REACH, **self._alone)
+        radius = self._apertures.kron_radius(*self._axes, angle, KRON_REACH)
         # Noise may leave no light to average over, or a mean that lies outside of where it was sought.
         radius = numpy.where(numpy.isfinite(radius) & (radius > 0), numpy.minimum(radius, KRON_REACH), 0)
         radius = numpy.maximum(kron[0] * radius, kron[1])
         self._long, self._size = radius * self._axes[0], radius * numpy.sqrt(self._axes[0] * self._axes[1])
-        ellipse = _Apertures(sep.sum_ellipse, (*shape, radius), self._long, 1)
-        self._flux, self._error, told, holed = self._fluxes(ellipse)
-        self.flags = CROWDED * (((told & sep.APER_HASMASKED) != 0) | holed) | BEYOND * ((told & sep.APER_TRUNC) != 0)
+        found = self._apertures.in_ellipses(*self._axes, angle, radius)
+        self._flux, self._error = self._with_error(found)
+        crowded, beyond = ((found.told & told) != 0 for told in (sep.APER_HASMASKED, sep.APER_TRUNC))
+        self.flags = CROWDED * (crowded | found.holed) | BEYOND * beyond
 
-    def _circle(self, size: float) -> Tuple[numpy.ndarray, numpy.ndarray]:
-        """The fluxes in circles of this radius, and their errors."""
-        sizes = numpy.full(len(self._x), float(size))
-        return self._fluxes(_Apertures(sep.sum_circle, (self._x, self._y, sizes), sizes, 5))[:2]
+    def _circles(self, radii: Sequence[float]) -> Sequence[totals.Fluxes]:
+        """The fluxes in circles of these radii, and their errors."""
+        return [self._with_error(found) for found in self._apertures.in_circles(radii)]
 
-    def _circles(self, diameters: Sequence[float]) -> Tuple[numpy.ndarray, numpy.ndarray]:
-        """The same for several diameters: numbers, or rows of numbers where there are several."""
-        found = zip(*(self._circle(diameter / 2) for diameter in diameters))
-        fluxes, errors = (numpy.stack(it, axis=-1) for it in found)
-        return (fluxes[:, 0], errors[:, 0]) if len(diameters) == 1 else (fluxes, errors)
+    def _circle(self, radius: float) -> totals.Fluxes:
+        """The same for one."""
+        return self._circles([radius])[0]
 
     def columns(
         self, diameters: Sequence[float], points: Optional[PointSources], split: numpy.ndarray
     ) -> Dict[str, numpy.ndarray]:
-        """The columns that SEP measures; `split` says which sources were split from a neighbour."""
-        (long, short, angle), in_circle = self._ellipses, self._circles(diameters)
+        """The columns that are measured in apertures; `split` says which sources were split from a neighbour."""
+        long, short, angle = self._ellipses
+        in_circle = [numpy.stack(it, axis=-1) for it in zip(*self._circles([it / 2 for it in diameters]))]
+        if len(diameters) == 1:
+            in_circle = [it[:, 0] for it in in_circle]
         total = totals.of(points, self._circle, self._flux, self._error, self._size, split)
-        lights = [(self._flux, self._long), (total[0], numpy.maximum(self._long, totals.reach(points)))]
-        across = [
-            _diameter(self._scene.residual, self._x, self._y, reach, light, self._alone)
-            for light, reach in lights[: 1 if points is None else 2]
-        ]
+        lights = [(self._long, self._flux), (numpy.maximum(self._long, totals.reach(points)), total[0])]
+        across = [_diameter(self._apertures, *light) for light in lights[: 1 if points is None else 2]]
         return {
             "FLUX_AUTO": self._flux,
             "FLUXERR_AUTO": self._error,

@@ -1,0 +1,116 @@
+/* How far the light of sources reaches: its mean distance in an ellipse, and the circle that holds a half of it, as SEP
+ * finds them. Pixels of other sources have no part in it. */
+#include "apertures.h"
+
+/* Half of the light is sought in so many rings, by so many subpixels along a pixel's side. */
+enum { RINGS = 64, SUBPIXELS = 3 };
+
+/* The mean distance of a source's light in units of an ellipse, within this radius; 0 where there is no light. */
+static double mean_radius(const struct field *field, int64_t source, struct ellipse ellipse, double reach)
+{
+    double x = field->x[source], y = field->y[source], limit = reach * reach, light = 0, moment = 0;
+    struct box box = box_of_ellipse(field, x, y, ellipse, reach);
+    for (int64_t at = box.top; at < box.bottom; at++) {
+        const float *row = field->light + at * field->width;
+        const int32_t *owners = field->segments + at * field->width;
+        double down = (double)at - y;
+        for (int64_t column = box.left; column < box.right; column++) {
+            double square = radius_squared(ellipse, (double)column - x, down);
+            if ((square <= limit) & !another_source(owners[column], field->numbers[source])) {
+                moment += sqrt(square) * row[column];
+                light += row[column];
+            }
+        }
+    }
+    return moment <= 0 || light <= 0 ? 0 : moment / light;
+}
+
+/* The Kron radii of sources in ellipses with these half axes and the angles of the long ones, sought within a radius. */
+LOOP void kron_radii(const struct field *field, const double *restrict long_axes, const double *restrict short_axes,
+                     const double *restrict angles, double reach, double *restrict radii)
+{
+    for (int64_t source = 0; source < field->sources; source++) {
+        struct ellipse ellipse = ellipse_of(long_axes[source], short_axes[source], angles[source]);
+        radii[source] = mean_radius(field, source, ellipse, reach);
+    }
+}
+
+/* The squares of the distances of a pixel's subpixels from a centre along an axis. */
+struct subpixels {
+    double squares[SUBPIXELS];
+};
+
+static inline struct subpixels subpixels_at(double distance)
+{
+    struct subpixels made;
+    double step = 1.0 / SUBPIXELS, place = distance + 0.5 * (step - 1);
+    for (int at = 0; at < SUBPIXELS; at++, place += step)
+        made.squares[at] = place * place;
+    return made;
+}
+
+/* Adds a pixel's light to the rings in which its subpixels lie, of which there are so many to a pixel; what lies outside
+ * of all goes to one behind them. */
+static inline void add(double *restrict rings, struct subpixels across, struct subpixels down, double per_pixel,
+                       double light)
+{
+    int32_t ring[SUBPIXELS * SUBPIXELS];
+    for (int at = 0; at < SUBPIXELS * SUBPIXELS; at++) {
+        double place = sqrt(across.squares[at % SUBPIXELS] + down.squares[at / SUBPIXELS]) * per_pixel;
+        ring[at] = (int32_t)(place < RINGS ? place : RINGS);
+    }
+    for (int at = 0; at < SUBPIXELS * SUBPIXELS; at++)
+        rings[ring[at]] += light;
+}
+
+/* Sums a source's light in rings within a circle. */
+static void sum_rings(const struct field *field, int64_t source, double reach, double *restrict rings)
+{
+    double x = field->x[source], y = field->y[source], per_pixel = 1 / (reach / RINGS);
+    double outer = (reach + CORNER) * (reach + CORNER), part = (1.0 / SUBPIXELS) * (1.0 / SUBPIXELS);
+    struct box box = box_around(field, x, y, reach, reach);
+    for (int ring = 0; ring < RINGS; ring++)
+        rings[ring] = 0;
+    for (int64_t at = box.top; at < box.bottom; at++) {
+        const float *row = field->light + at * field->width;
+        const int32_t *owners = field->segments + at * field->width;
+        double down = (double)at - y;
+        struct subpixels rows = subpixels_at(down);
+        for (int64_t column = box.left; column < box.right; column++) {
+            double right = (double)column - x;
+            if ((right * right + down * down < outer) & !another_source(owners[column], field->numbers[source]))
+                add(rings, subpixels_at(right), rows, per_pixel, row[column] * part);
+        }
+    }
+}
+
+/* The radius at which the light from the centre on amounts to this, between rings by a straight line; `reach` where it
+ * doesn't so far. */
+static double radius_holding(const double *rings, double reach, double light)
+{
+    double before = 0, step = reach / RINGS;
+    for (int ring = 0; ring < RINGS; ring++) {
+        double sum = before + rings[ring];
+        if (!(sum < light))
+            return ring ? step * (ring + (light - before) / (sum - before)) : light > 0 ? step * light / sum : 0;
+        before = sum;
+    }
+    return reach;
+}
+
+/* The radii that hold half of these fluxes, within `reaches`. They are sought within `near` times as far first, since
+ * that is quicker, and taken from there where they are less than `enough` times as far. */
+LOOP void half_radii(const struct field *field, const double *restrict reaches, const double *restrict fluxes,
+                     double near, double enough, double *restrict radii)
+{
+    double rings[RINGS + 1];
+    for (int64_t source = 0; source < field->sources; source++) {
+        double reach = reaches[source], half = 0.5 * fluxes[source];
+        sum_rings(field, source, near * reach, rings);
+        radii[source] = radius_holding(rings, near * reach, half);
+        if (radii[source] >= enough * reach) {
+            sum_rings(field, source, reach, rings);
+            radii[source] = radius_holding(rings, reach, half);
+        }
+    }
+}
