@@ -49,50 +49,73 @@ static inline struct subpixels subpixels_at(double distance)
     return made;
 }
 
-/* Adds a pixel's light to the rings in which its subpixels lie, of which there are so many to a pixel; what lies outside
- * of all goes to one behind them. */
-static inline void add(double *restrict rings, struct subpixels across, struct subpixels down, double per_pixel,
-                       double light)
+/* Rings of the same width around a centre, each with the light in it; what lies outside of all goes to one behind them.
+ * Pixels count by subpixels where their corners may lie in other rings than their centres. */
+struct rings {
+    double width, per_pixel, light[RINGS + 1];
+};
+
+/* A distance in rings. */
+static inline int32_t ring_of(const struct rings *rings, double distance)
 {
-    int32_t ring[SUBPIXELS * SUBPIXELS];
-    for (int at = 0; at < SUBPIXELS * SUBPIXELS; at++) {
-        double place = sqrt(across.squares[at % SUBPIXELS] + down.squares[at / SUBPIXELS]) * per_pixel;
-        ring[at] = (int32_t)(place < RINGS ? place : RINGS);
-    }
-    for (int at = 0; at < SUBPIXELS * SUBPIXELS; at++)
-        rings[ring[at]] += light;
+    double place = distance * rings->per_pixel;
+    return (int32_t)(place < RINGS ? place : RINGS);
 }
 
-/* Sums a source's light in rings within a circle. */
-static void sum_rings(const struct field *field, int64_t source, double reach, double *restrict rings)
+/* Whether a pixel at this distance lies in one ring. */
+static inline int in_one(const struct rings *rings, double distance)
 {
-    double x = field->x[source], y = field->y[source], per_pixel = 1 / (reach / RINGS);
-    double outer = (reach + CORNER) * (reach + CORNER), part = (1.0 / SUBPIXELS) * (1.0 / SUBPIXELS);
+    if (rings->width < 2 * CORNER)
+        return 0;
+    double beyond = fmod(distance, rings->width);
+    return beyond >= CORNER && beyond <= rings->width - CORNER;
+}
+
+/* Adds the light of a pixel's subpixels, of which each has so much. */
+static inline void add(struct rings *rings, struct subpixels across, struct subpixels down, double light)
+{
+    int32_t ring[SUBPIXELS * SUBPIXELS];
+    for (int at = 0; at < SUBPIXELS * SUBPIXELS; at++)
+        ring[at] = ring_of(rings, sqrt(across.squares[at % SUBPIXELS] + down.squares[at / SUBPIXELS]));
+    for (int at = 0; at < SUBPIXELS * SUBPIXELS; at++)
+        rings->light[ring[at]] += light;
+}
+
+/* A source's light in rings within a circle. */
+static struct rings rings_within(const struct field *field, int64_t source, double reach)
+{
+    double x = field->x[source], y = field->y[source], outer = (reach + CORNER) * (reach + CORNER);
     struct box box = box_around(field, x, y, reach, reach);
-    for (int ring = 0; ring < RINGS; ring++)
-        rings[ring] = 0;
+    struct rings rings = {reach / RINGS, 1 / (reach / RINGS), {0}};
     for (int64_t at = box.top; at < box.bottom; at++) {
         const float *row = field->light + at * field->width;
         const int32_t *owners = field->segments + at * field->width;
         double down = (double)at - y;
         struct subpixels rows = subpixels_at(down);
         for (int64_t column = box.left; column < box.right; column++) {
-            double right = (double)column - x;
-            if ((right * right + down * down < outer) & !another_source(owners[column], field->numbers[source]))
-                add(rings, subpixels_at(right), rows, per_pixel, row[column] * part);
+            double right = (double)column - x, square = right * right + down * down;
+            if ((square < outer) & !another_source(owners[column], field->numbers[source])) {
+                if (in_one(&rings, sqrt(square)))
+                    rings.light[ring_of(&rings, sqrt(square))] += row[column];
+                else
+                    add(&rings, subpixels_at(right), rows, (1.0 / SUBPIXELS) * (1.0 / SUBPIXELS) * row[column]);
+            }
         }
     }
+    return rings;
 }
 
-/* The radius at which the light from the centre on amounts to this, between rings by a straight line; `reach` where it
- * doesn't so far. */
-static double radius_holding(const double *rings, double reach, double light)
+/* The radius at which the light from the centre on amounts to this, along a straight line within a ring; `reach` where
+ * it doesn't so far. */
+static double radius_holding(struct rings rings, double reach, double light)
 {
-    double before = 0, step = reach / RINGS;
-    for (int ring = 0; ring < RINGS; ring++) {
-        double sum = before + rings[ring];
+    double before = rings.light[0];
+    if (!(before < light))
+        return light <= 0 || before == 0 ? 0 : rings.width * light / before;
+    for (int ring = 1; ring < RINGS; ring++) {
+        double sum = before + rings.light[ring];
         if (!(sum < light))
-            return ring ? step * (ring + (light - before) / (sum - before)) : light > 0 ? step * light / sum : 0;
+            return rings.width * (ring + (light - before) / (sum - before));
         before = sum;
     }
     return reach;
@@ -103,14 +126,10 @@ static double radius_holding(const double *rings, double reach, double light)
 LOOP void half_radii(const struct field *field, const double *restrict reaches, const double *restrict fluxes,
                      double near, double enough, double *restrict radii)
 {
-    double rings[RINGS + 1];
     for (int64_t source = 0; source < field->sources; source++) {
         double reach = reaches[source], half = 0.5 * fluxes[source];
-        sum_rings(field, source, near * reach, rings);
-        radii[source] = radius_holding(rings, near * reach, half);
-        if (radii[source] >= enough * reach) {
-            sum_rings(field, source, reach, rings);
-            radii[source] = radius_holding(rings, reach, half);
-        }
+        radii[source] = radius_holding(rings_within(field, source, near * reach), near * reach, half);
+        if (radii[source] >= enough * reach)
+            radii[source] = radius_holding(rings_within(field, source, reach), reach, half);
     }
 }

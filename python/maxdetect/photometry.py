@@ -416,6 +416,12 @@ def _in_units(name: str, values: numpy.ndarray, unit: float) -> numpy.ndarray:
     return values * unit if name.startswith(("FLUX_", "FLUXERR_")) and name != "FLUX_RADIUS" else values
 
 
+def _of_totals(points: Optional[PointSources]) -> Sequence[float]:
+    """The radii of the circles that total fluxes are told by."""
+    width = max(points.width, totals.LEAST_WIDTH) if points else 0.0
+    return [times * width for times in (totals.NEAR, totals.FAR)] if points else []
+
+
 class _Sums:
     """The sums in apertures of sources, and what they tell. `gathered` says by how much closer the light of each lies
     than its pixels do, and `kron` how far its Kron ellipse reaches.
@@ -450,23 +456,20 @@ class _Sums:
         crowded, beyond = ((found.told & told) != 0 for told in (sep.APER_HASMASKED, sep.APER_TRUNC))
         self.flags = CROWDED * (crowded | found.holed) | BEYOND * beyond
 
-    def _circles(self, radii: Sequence[float]) -> Sequence[totals.Fluxes]:
-        """The fluxes in circles of these radii, and their errors."""
-        return [self._with_error(found) for found in self._apertures.in_circles(radii)]
-
-    def _circle(self, radius: float) -> totals.Fluxes:
-        """The same for one."""
-        return self._circles([radius])[0]
+    def _circles(self, radii: Sequence[float]) -> Dict[float, totals.Fluxes]:
+        """The fluxes in circles, and their errors, by the radii: all at once, while a source's pixels are at hand."""
+        return dict(zip(radii, map(self._with_error, self._apertures.in_circles(radii))))
 
     def columns(
         self, diameters: Sequence[float], points: Optional[PointSources], split: numpy.ndarray
     ) -> Dict[str, numpy.ndarray]:
         """The columns that are measured in apertures; `split` says which sources were split from a neighbour."""
-        long, short, angle = self._ellipses
-        in_circle = [numpy.stack(it, axis=-1) for it in zip(*self._circles([it / 2 for it in diameters]))]
+        (long, short, angle), radii = self._ellipses, [diameter / 2 for diameter in diameters]
+        circles = self._circles([*radii, *_of_totals(points)])
+        in_circle = [numpy.stack(it, axis=-1) for it in zip(*(circles[radius] for radius in radii))]
         if len(diameters) == 1:
             in_circle = [it[:, 0] for it in in_circle]
-        total = totals.of(points, self._circle, self._flux, self._error, self._size, split)
+        total = totals.of(points, circles.__getitem__, self._flux, self._error, self._size, split)
         lights = [(self._long, self._flux), (numpy.maximum(self._long, totals.reach(points)), total[0])]
         across = [_diameter(self._apertures, *light) for light in lights[: 1 if points is None else 2]]
         return {
