@@ -3,7 +3,7 @@ from typing import Iterator, NamedTuple, Tuple
 
 import numpy
 
-__all__ = ["LEFT_OUT", "Stamps", "batches", "vignets"]
+__all__ = ["LEFT_OUT", "Stamps", "batches", "middles", "vignets"]
 
 # What a vignet has where a pixel is another source's or has no value, as in Source Extractor's.
 LEFT_OUT = -1e30
@@ -60,6 +60,18 @@ def _beyond(middle: Tuple[numpy.ndarray, numpy.ndarray], half: numpy.ndarray, sh
     return max(0, int(max(end.max(initial=0) for pair in ends for end in pair)))
 
 
+def middles(centre: Tuple[numpy.ndarray, numpy.ndarray], half: numpy.ndarray, shape: Tuple[int, ...]) -> numpy.ndarray:
+    """The rows and columns of the pixels at these places, counted from 0; windows of `half` pixels around them that
+    would lie beyond the image lie just beside it.
+    """
+    return numpy.array(
+        [
+            numpy.clip(numpy.nan_to_num(numpy.round(at)), -half - 1, side + half).astype("i8")
+            for at, side in zip(centre, shape)
+        ]
+    )
+
+
 def batches(
     image: numpy.ndarray,
     undefined: numpy.ndarray,
@@ -71,7 +83,7 @@ def batches(
     """The windows of sources with these numbers in the map around these rows and columns, counted from 0, a batch for
     those that reach as many whole pixels, `half`, from their middles.
     """
-    down, across = (numpy.round(it).astype(int) for it in centre)
+    down, across = middles(centre, half, image.shape)
     wide = _Wide(image, undefined, segments, _beyond((down, across), half, image.shape))
     for size in numpy.unique(half):
         places = numpy.flatnonzero(half == size)

@@ -7,7 +7,9 @@ from astropy.table import Table
 
 import maxdetect
 from conftest import add_star
-from maxdetect import _cli as cli, _stamps as stamps, _windowed as windowed
+from maxdetect import _cli as cli, _loops as loops, _stamps as stamps, _weights as weights, _windowed as windowed
+
+needs_loops = pytest.mark.skipif(not loops.library(), reason="the loops in C aren't compiled")
 
 
 def field(seed, step=32, side=288, brightest=1e5):
@@ -96,3 +98,94 @@ def test_columns_beside_fluxes(tmp_path, monkeypatch):
     )
     assert (rows["STELLARITY"] > 0.5).mean() > 0.95 and (rows["SNR_WIN"] > 10).all()
     assert numpy.asarray(table["THRESHOLD"]) == pytest.approx(table.meta["THRESH"] / 30 * 30 / 3.8, rel=0.15)
+
+
+def scattered(seed, count=60, side=90):
+    """A noisy image, its map with neighbours, the mask of undefined pixels, and sources: numbers, places and radii."""
+    rng = numpy.random.default_rng(seed)
+    x, y = rng.uniform(-3, side + 40, count), rng.uniform(-3, side + 2, count)
+    half = rng.choice([rng.uniform(0.5, 4, count), rng.uniform(0, 12, count)])
+    image = rng.normal(0, 1, (side, side + 37)).astype("f4")
+    down, right = numpy.mgrid[: image.shape[0], : image.shape[1]]
+    segments = numpy.zeros(image.shape, dtype="i4")
+    for number in range(1, count + 1):
+        add_star(image, x[number - 1], y[number - 1], 10 ** rng.uniform(0, 3.5))
+        near = numpy.hypot(right - x[number - 1], down - y[number - 1]) < rng.uniform(0, 5)
+        segments[near] = number
+    undefined = rng.uniform(size=image.shape) < rng.choice([0, 0.001, 0.05])
+    undefined[:, 20:24] |= seed % 3 == 0
+    image[undefined] = 0
+    return image, undefined, segments, numpy.arange(1, count + 1, dtype="i4"), x, y, half
+
+
+def both_ways(monkeypatch, image, noise, gain, undefined, segments, numbers, x, y, half):
+    """What is found by the loop in C and by numpy, which are the same to the last digit."""
+    by_loop = windowed.of(image, noise, gain, undefined, segments, numbers, x, y, half)
+    with monkeypatch.context() as without:
+        without.setattr(loops, "library", lambda: None)
+        by_numpy = windowed.of(image, noise, gain, undefined, segments, numbers, x, y, half)
+    for name in windowed.NAMES:
+        assert by_loop[name].dtype == by_numpy[name].dtype and by_loop[name].shape == (len(numbers),)
+        assert by_loop[name].tobytes() == by_numpy[name].tobytes(), name
+    return by_loop
+
+
+@needs_loops
+@pytest.mark.parametrize("seed", range(12))
+def test_the_loop_as_numpy(monkeypatch, seed):
+    image, undefined, segments, numbers, x, y, half = scattered(seed)
+    noises = numpy.random.default_rng(seed).uniform(0, 2, image.shape).astype("f4")
+    for noise in (0.7, noises):
+        for gain in (None, 3.3):
+            found = both_ways(monkeypatch, image, noise, gain, undefined, segments, numbers, x, y, half)
+    assert numpy.isfinite(found["XWIN"]).sum() > 10 and numpy.isfinite(found["SNR_WIN"]).any()
+
+
+@needs_loops
+def test_the_loop_as_numpy_where_sources_are_odd(monkeypatch):
+    image, undefined, segments, _, _, _, _ = scattered(5)
+    height, width = image.shape
+    odd = [numpy.nan, -1e9, 1e300, numpy.inf, -30.5, -4.5, -0.5, 0, 0.5, 44.5, height - 1, width - 0.5, width + 3, 400]
+    x, y = (it.ravel() for it in numpy.meshgrid(odd, odd))
+    numbers = numpy.resize(numpy.array([1, 7, 2**31 - 1, 60, 0], dtype="i4"), len(x))
+    half = numpy.resize([1.0, 0.0, numpy.nan, 6.0, -3.0, 11.0], len(x))
+    none = numpy.zeros(image.shape, dtype=bool)
+    every = (image, 1.0, 2.0, none, segments, numbers, x, y, half)
+    both_ways(monkeypatch, *every)
+    both_ways(monkeypatch, image, 0.0, None, ~none, segments, numbers, x, y, half)
+    for value in (0, numpy.nan, numpy.inf, -1, 1e38, 1e-40):
+        light = image.copy()
+        light[40:50] = value
+        noises = numpy.where(undefined, 0, numpy.float32(0.5))
+        both_ways(monkeypatch, light, noises, 1.0, undefined, segments, numbers, x, y, half)
+        both_ways(monkeypatch, numpy.full_like(image, value), 1.0, None, none, segments, numbers, x, y, half)
+    both_ways(monkeypatch, *(it[:0] if numpy.ndim(it) == 1 else it for it in every))
+    wide = numpy.array([1e3, 40.0, 35.5])
+    both_ways(monkeypatch, image, 1.0, 2.0, none, segments, numbers[:3], *([numpy.array([9.0, 44, 300])] * 2), wide)
+    for one in (image[:1], image[:, :1], image[:1, :1], image[::2, ::3]):
+        places = (slice(0, one.shape[0]), slice(0, one.shape[1]))
+        both_ways(monkeypatch, one, 1.0, None, none[places], segments[places], numbers, x, y, half)
+
+
+def test_weights_are_a_gaussians():
+    powers = -numpy.concatenate([numpy.linspace(0, 5, 2001), numpy.linspace(0, 400, 2001)])
+    assert numpy.abs(weights.falling(powers) / numpy.exp(powers) - 1).max() < 2e-15
+    least, other, most = weights.falling(numpy.array([-numpy.inf, -1e9, 0.0]))
+    assert 0 < least == other < 1e-170 and most == 1
+
+
+@pytest.mark.parametrize(
+    "sigma, off", [(0.8, (0.3, -0.8)), (2.0, (-1.7, 0.0)), (50.0, (49.0, 3.0)), (3.0, (20.0, -14))]
+)
+@pytest.mark.parametrize("times", [1, 2])
+def test_weights_around_centres(sigma, off, times):
+    off, reach = numpy.array(off)[:, None], int(4 * sigma) + 2
+    gaussians = weights.Gaussians(numpy.array([sigma]), reach, 2 * reach + 2)
+    made = gaussians.weights(off, 2, times == 2)
+    places = numpy.arange(-reach, reach + 2)[:, None, None] - off
+    alone = numpy.exp(-((places / sigma) ** 2) / 2 * times).swapaxes(0, 1)
+    for power in range(3):
+        # Each axis alone lacks the other's part of what they have in common.
+        found = made[:, :, power] * gaussians.common(off) ** times
+        lacking = numpy.exp(-((off[::-1] / sigma) ** 2) / 2 * times)[:, None]
+        assert found == pytest.approx(alone * lacking * places.swapaxes(0, 1) ** power, rel=1e-12, abs=1e-280)
