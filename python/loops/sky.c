@@ -180,14 +180,14 @@ VECTORS LOOP void quiet(const float *noise, const uint8_t *finite, const float *
         keep_quiet(noise + at, factor, finite + at, width, (float)clip, kept + at);
 }
 
-/* What counts of a row, added to each column's sum, and in units of the cells to that of its squares. */
+/* What counts of a row, added to each column's sum, and in units of the cells. */
 static inline void add_kept(const float *restrict row, const uint8_t *restrict kept, const float *restrict unit,
-                            int64_t width, float *restrict total, float *restrict squares)
+                            int64_t width, float *restrict total, float *restrict scaled)
 {
     for (int64_t x = 0; x < width; x++) {
-        float value = kept[x] ? row[x] : 0, scaled = value * unit[x];
+        float value = kept[x] ? row[x] : 0;
         total[x] += value;
-        squares[x] += scaled * scaled;
+        scaled[x] = value * unit[x];
     }
 }
 
@@ -205,16 +205,16 @@ static inline void add_mask(const uint8_t *restrict mask, int64_t width, int32_t
 }
 
 /* For each column of a row of cells how many pixels count and how many are there; the sum of the noise over those that
- * count, that of its squares in the cells' units, and that of the residual where a map of the noise makes it another.
- */
+ * count, and that of the residual where a map of the noise makes it another. And the noise of those that count in the
+ * cells' units, 0 elsewhere. */
 VECTORS LOOP void column_sums(const float *noise, int32_t mapped, const float *residual, const uint8_t *kept,
                               const uint8_t *finite, const float *unit, int64_t height, int64_t width, int32_t *count,
-                              int32_t *there, float *total, float *squares, double *residual_total)
+                              int32_t *there, float *total, double *residual_total, float *scaled)
 {
     for (int64_t x = 0; x < width; x++)
-        count[x] = there[x] = 0, total[x] = squares[x] = 0, residual_total[x] = 0;
+        count[x] = there[x] = 0, total[x] = 0, residual_total[x] = 0;
     for (int64_t at = 0; at < height * width; at += width) {
-        add_kept(noise + at, kept + at, unit, width, total, squares);
+        add_kept(noise + at, kept + at, unit, width, total, scaled + at);
         if (mapped)
             add_wide(residual + at, kept + at, width, residual_total);
         add_mask(kept + at, width, count);

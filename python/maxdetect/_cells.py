@@ -25,14 +25,15 @@ _QUIET = Loop(
 )
 _SUMS = Loop(
     "column_sums",
-    *(_BAND, flag, _BAND, _MASK, _MASK, _COLUMNS, *_SIDES, _COUNTS, _COUNTS, _COLUMNS, _COLUMNS, array("f8")),
+    *(_BAND, flag, _BAND, _MASK, _MASK, _COLUMNS, *_SIDES, _COUNTS, _COUNTS, _COLUMNS, array("f8"), _BAND),
 )
 _RANGES = Loop("column_ranges", _BAND, _MASK, *_SIDES, _COLUMNS, _COLUMNS, _COUNTS)
 
 
 class Sums(NamedTuple):
     """For each cell in a row of cells how many pixels count and how many are there; and over those that count the sum
-    of the noise, of its squares in the cell's units, and of what the noise is taken from. Or the same for each column.
+    of the noise, of its squares in the cell's units, and of what the noise is taken from. Or the same for each column,
+    but for the squares: there it is each pixel's noise in the cell's units, 0 where it doesn't count.
     """
 
     pixels: numpy.ndarray
@@ -107,7 +108,13 @@ def of_row(
     factor, unit = (numpy.repeat(it, mesh)[: residual.shape[1]] for it in (inverse, unit))
     every = (residual,) if relative is None else (residual, relative)
     looped = _SCALED and residual.size and all(it.dtype == "f4" for it in every)
-    return Sums(*(_across(it, mesh) for it in (_by_loops if looped else _by_arrays)(every, factor, unit, clip)))
+    columns = (_by_loops if looped else _by_arrays)(every, factor, unit, clip)
+    scaled = in_cells(columns.squares, mesh, 0)
+    # numpy has an order of its own here, which is the same for the same numbers.
+    squares = numpy.einsum("ijk,ijk->j", scaled, scaled).astype("f8")
+    return Sums(
+        squares=squares, **{name: _across(it, mesh) for name, it in columns._asdict().items() if name != "squares"}
+    )
 
 
 def _by_arrays(every: Tuple[numpy.ndarray, ...], factor: numpy.ndarray, unit: numpy.ndarray, clip: float) -> Sums:
@@ -129,11 +136,10 @@ def _by_arrays(every: Tuple[numpy.ndarray, ...], factor: numpy.ndarray, unit: nu
     kept = noise * keep
     total = _down(kept, kept.dtype)
     kept *= unit
-    kept *= kept
     other = total if len(every) == 1 else _down(numpy.where(keep, every[0], 0), numpy.dtype("f8"))
     # numpy takes twice as long for sums in 64 bits.
     count, there = (numpy.add.reduce(it, axis=0, dtype="i4") for it in (keep, finite))
-    return Sums(count, there, total, _down(kept, kept.dtype), other)
+    return Sums(count, there, total, kept, other)
 
 
 def _by_loops(every: Tuple[numpy.ndarray, ...], factor: numpy.ndarray, unit: numpy.ndarray, clip: float) -> Sums:
@@ -148,10 +154,15 @@ def _by_loops(every: Tuple[numpy.ndarray, ...], factor: numpy.ndarray, unit: num
     counts, lines = numpy.empty(width, dtype="u2"), numpy.empty(2 * (width + 2 * REACH), dtype="u1")
     limit = float(numpy.float32(clip))
     _QUIET(noise, finite, sums, factor, height, width, low, high, REACH, limit, counts, lines, hot, keep)
-    (count, there), (total, squares) = numpy.empty((2, width), dtype="i4"), numpy.empty((2, width), dtype="f4")
-    other = numpy.empty(width)
-    _SUMS(noise, mapped, residual, keep, finite, unit, height, width, count, there, total, squares, other)
-    return Sums(count, there, total, squares, other if mapped else total)
+    (count, there), total, other = (
+        numpy.empty((2, width), dtype="i4"),
+        numpy.empty(width, dtype="f4"),
+        numpy.empty(width),
+    )
+    # What the sums over 3 by 3 pixels took is free again.
+    scaled = sums
+    _SUMS(noise, mapped, residual, keep, finite, unit, height, width, count, there, total, other, scaled)
+    return Sums(count, there, total, scaled, other if mapped else total)
 
 
 def ranges(
