@@ -224,10 +224,36 @@ def test_sources_and_which_of_them_stay(both, shape, seed, dtype):
 
     def made(least):
         parts = pieces.sources(numbers, catalogue, segments.astype(dtype), THRESHOLD, light, least, 40.0)
-        return [*parts[1:], *rows_of(parts.catalogue), cleaning.kept(numbers, parts, THRESHOLD, 3, 3.2)]
+        how = (numbers, parts, THRESHOLD, 3, 3.2)
+        kept = cleaning.kept(*how), cleaning.kept(*how, lambda light: 1 + light / 30)
+        return [*parts[1:], *rows_of(parts.catalogue), *kept]
 
     for least in (0, 6.0):
         assert all(same(*them) for them in zip(*both(made, least)))
+
+
+def test_sources_on_halos(both):
+    """Some are peaks of noise on the light of their own component."""
+    rows, columns = numpy.mgrid[:300, :300] - 150
+    numbers = hilly((300, 300), 2) + numpy.rint(150 * numpy.exp(-(rows**2 + columns**2) / 8e3)).astype("i4")
+    catalogue, segments = seen(numbers)
+    parts = pieces.sources(numbers, catalogue, segments, THRESHOLD, light, 3.0, 40.0)
+    kept, its = both(cleaning.kept, numbers, parts, THRESHOLD, 3, 3.2)
+    assert same(kept, its) and 0 < kept.sum() < len(kept)
+
+
+@pytest.mark.parametrize("threshold", [-(2**31), -7, 40, 2**31 - 1, 2**40])
+def test_pixels_beside_components(both, threshold):
+    numbers = numpy.random.default_rng(4).integers(-60, 90, (40, 61), dtype="i4")
+    numbers[3:5], numbers[7, :9], numbers[9, :9] = kernel.LEAST, 2**31 - 1, 1 - 2**31
+    none = numpy.zeros(0, dtype="i4")
+    parts = pieces.Parts(None, numpy.array([70, 71, 1200]), none, numpy.array([True, False, True]), none)
+
+    def made():
+        bands = cleaning._Bands(numbers, parts)
+        return bands.beside(slice(0, 40), bands.values(slice(0, 40)), threshold)
+
+    assert same(*both(made))
 
 
 # ---- all of it
