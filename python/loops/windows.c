@@ -16,8 +16,8 @@
 /* How many sums are made beside each other; the powers of places are from 0 to 2. */
 enum { STRANDS = 4, TERMS = 13, POWERS = 3, MOMENTS = POWERS * POWERS };
 
-/* Neighbouring numbers that are reckoned with at once. */
-typedef double strands __attribute__((vector_size(STRANDS * sizeof(double))));
+/* Neighbouring numbers that are reckoned with at once, wherever they lie. */
+typedef double strands __attribute__((vector_size(STRANDS * sizeof(double)), aligned(sizeof(double)), may_alias));
 
 /* An image less its background, with one noise or a noise for each pixel, and the variance that a unit of light has of
  * its own. */
@@ -250,28 +250,38 @@ INLINE void powers_of(const struct window *window, double behind, double before,
     }
 }
 
-/* The weights of rows and columns, or their squares, around a centre so far off the middle, but for the factor that a
- * window has in common, and times the places from the centre to powers up to `most`. */
-INLINE void weigh(const struct window *window, const double *off, int squared, int most)
+/* The weights of rows and columns around a centre so far off the middle, but for the factor that a window has in
+ * common. */
+INLINE void weigh(const struct window *window, const double *off)
 {
-    const int64_t line = window->side / STRANDS * STRANDS;
     double less[2] = {-(fabs(off[0]) * window->narrow), -(fabs(off[1]) * window->narrow)};
     fall(less, 2);
     for (int axis = 0; axis < 2; axis++) {
         const double behind = off[axis] < 0 ? less[axis] : 1 / less[axis], *restrict even = window->even;
-        double *restrict weights = window->weights[0] + axis * line;
+        double *restrict weights = window->weights[0] + axis * window->side;
         powers_of(window, behind, 1 / behind, weights);
-        for (int64_t at = 0; at < line; at++)
+        for (int64_t at = 0; at < window->side; at++)
             weights[at] *= even[at];
-        for (int64_t at = 0; squared && at < line; at++)
-            weights[at] *= weights[at];
-        for (int power = 0; power < most; power++) {
-            const double *restrict last = window->weights[power] + axis * line;
-            double *restrict next = window->weights[power + 1] + axis * line;
-            for (int64_t at = 0; at < line; at++)
+    }
+}
+
+/* Makes the weights' squares of them. */
+INLINE void square(const struct window *window)
+{
+    for (int64_t at = 0; at < 2 * window->side; at++)
+        window->weights[0][at] *= window->weights[0][at];
+}
+
+/* The weights times the places from the centre to powers up to `most`. */
+INLINE void multiply(const struct window *window, const double *off, int most)
+{
+    for (int power = 0; power < most; power++)
+        for (int axis = 0; axis < 2; axis++) {
+            const double *restrict last = window->weights[power] + axis * window->side;
+            double *restrict next = window->weights[power + 1] + axis * window->side;
+            for (int64_t at = 0; at < window->side; at++)
                 next[at] = last[at] * ((double)(at - window->before) - off[axis]);
         }
-    }
 }
 
 /* The factor that the weights around a centre so far off the middle have in common. */
@@ -287,28 +297,25 @@ INLINE double common(const struct window *window, const double *off)
 /* The sums down the columns of pixels times weights of the rows, of each STRANDS-th row first. */
 INLINE void sum_down(const struct window *window, const double *pixels, const double *weights, double *sums)
 {
-    for (int64_t column = 0; column < window->side; column += STRANDS) {
-        strands strand[STRANDS], values;
-        for (int64_t row = 0; row < window->side; row += STRANDS)
-            for (int at = 0; at < STRANDS; at++) {
-                memcpy(&values, pixels + (row + at) * window->side + column, sizeof values);
-                values *= weights[row + at];
-                strand[at] = row ? strand[at] + values : values;
-            }
-        values = (strand[0] + strand[2]) + (strand[1] + strand[3]);
-        memcpy(sums + column, &values, sizeof values);
+    const int64_t line = window->side;
+    for (int64_t column = 0; column < line; column += STRANDS) {
+        const double *values = pixels + column;
+        strands strand[STRANDS];
+        for (int at = 0; at < STRANDS; at++)
+            strand[at] = *(const strands *)(values + at * line) * weights[at];
+        for (int64_t row = STRANDS; row < line; row += STRANDS)
+            for (int at = 0; at < STRANDS; at++)
+                strand[at] += *(const strands *)(values + (row + at) * line) * weights[row + at];
+        *(strands *)(sums + column) = (strand[0] + strand[2]) + (strand[1] + strand[3]);
     }
 }
 
 /* The sum of numbers times weights, of each STRANDS-th first. */
 INLINE double sum_along(const double *numbers, const double *weights, int64_t count)
 {
-    strands strand = {0}, values, times;
-    for (int64_t at = 0; at < count; at += STRANDS) {
-        memcpy(&values, numbers + at, sizeof values);
-        memcpy(&times, weights + at, sizeof times);
-        strand = at ? strand + values * times : values * times;
-    }
+    strands strand = *(const strands *)numbers * *(const strands *)weights;
+    for (int64_t at = STRANDS; at < count; at += STRANDS)
+        strand += *(const strands *)(numbers + at) * *(const strands *)(weights + at);
     return (strand[0] + strand[2]) + (strand[1] + strand[3]);
 }
 
@@ -330,7 +337,8 @@ INLINE double move(const struct window *window, const struct rules *rules, const
     double last = INFINITY, sums[POWERS][POWERS];
     for (int64_t step = 0; step < rules->steps; step++) {
         const double off[2] = {centre[0] - middle[0], centre[1] - middle[1]};
-        weigh(window, off, 0, 1);
+        weigh(window, off);
+        multiply(window, off, 1);
         sum_up(window, window->values, 1, sums);
         const double down = 2 * sums[1][0] / sums[0][0], right = 2 * sums[0][1] / sums[0][0];
         const double below = centre[0] - start[0], beside = centre[1] - start[1];
@@ -356,10 +364,12 @@ INLINE double measure(const struct scene *scene, const struct window *window, in
     read_values(scene, window, number);
     const double last = move(window, rules, middle, centre);
     const double off[2] = {centre[0] - middle[0], centre[1] - middle[1]}, factor = common(window, off);
-    weigh(window, off, 0, 2);
+    weigh(window, off);
+    multiply(window, off, 2);
     sum_up(window, window->values, 2, sums[0]);
     read_variance(scene, window);
-    weigh(window, off, 1, 2);
+    square(window);
+    multiply(window, off, 2);
     sum_up(window, window->variance, 2, sums[1]);
     for (int at = 0; at < MOMENTS; at++) {
         moments[at] = sums[0][at / POWERS][at % POWERS] * factor;
