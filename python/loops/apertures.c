@@ -1,5 +1,5 @@
-/* The light in circles and ellipses around sources, with its error, as SEP sums it. Pixels of other sources have no part
- * in it. Besides, how much of an aperture has pixels without a value. */
+/* The light in circles and ellipses around sources, with its error, as SEP sums it. Pixels of other sources have no
+ * part in it. Besides, how much of an aperture has pixels without a value. */
 #include "apertures.h"
 
 /* A pixel at a circle's edge counts by how many of its subpixels, so many along a side, have their centres within. At
@@ -120,8 +120,8 @@ static inline struct circle circle_with(double radius, const struct parts *parts
     return (struct circle){radius, inner > 0 ? inner * inner : 0, radius * radius, outer * outer, parts};
 }
 
-/* The part of a pixel that lies in a circle: how far it lies to the right of the centre, the square of its distance, and
- * where its subpixels' rows are. */
+/* The part of a pixel that lies in a circle: how far it lies to the right of the centre, the square of its distance,
+ * and where its subpixels' rows are. */
 static inline double part_within(const struct circle *circle, double right, double square, const struct subpixels *rows)
 {
     if (!(square > circle->inner))

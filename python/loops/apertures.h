@@ -11,7 +11,7 @@
 /* Told of an aperture, by SEP's numbers: it reaches beyond the image's edge; it has pixels of other sources. */
 enum { BEYOND = 16, CROWDED = 32 };
 
-/* How far a pixel's corner lies from its centre, as SEP has it: pixels this near to an aperture's edge may lie on it. */
+/* How far a pixel's corner lies from its centre, as SEP has it: pixels so near to an aperture's edge may lie on it. */
 #define CORNER 0.7072
 
 /* An image less its background, whose pixels belong to sources of a map, and the sources to look at. `deviations` are

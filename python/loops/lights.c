@@ -25,7 +25,7 @@ static double mean_radius(const struct field *field, int64_t source, struct elli
     return moment <= 0 || light <= 0 ? 0 : moment / light;
 }
 
-/* The Kron radii of sources in ellipses with these half axes and the angles of the long ones, sought within a radius. */
+/* The Kron radii of sources in ellipses with these half axes and angles of the long ones, sought within a radius. */
 LOOP void kron_radii(const struct field *field, const double *restrict long_axes, const double *restrict short_axes,
                      const double *restrict angles, double reach, double *restrict radii)
 {
@@ -107,29 +107,58 @@ static struct rings rings_within(const struct field *field, int64_t source, doub
 
 /* The radius at which the light from the centre on amounts to this, along a straight line within a ring; `reach` where
  * it doesn't so far. */
-static double radius_holding(struct rings rings, double reach, double light)
+static double radius_holding(const struct rings *rings, double reach, double light)
 {
-    double before = rings.light[0];
+    double before = rings->light[0];
     if (!(before < light))
-        return light <= 0 || before == 0 ? 0 : rings.width * light / before;
+        return light <= 0 || before == 0 ? 0 : rings->width * light / before;
     for (int ring = 1; ring < RINGS; ring++) {
-        double sum = before + rings.light[ring];
+        double sum = before + rings->light[ring];
         if (!(sum < light))
-            return rings.width * (ring + (light - before) / (sum - before));
+            return rings->width * (ring + (light - before) / (sum - before));
         before = sum;
     }
     return reach;
 }
 
-/* The radii that hold half of these fluxes, within `reaches`. They are sought within `near` times as far first, since
- * that is quicker, and taken from there where they are less than `enough` times as far. */
-LOOP void half_radii(const struct field *field, const double *restrict reaches, const double *restrict fluxes,
-                     double near, double enough, double *restrict radii)
+/* The rings around a source that are summed, near its centre and, if `is_far`, as far as is sought; the reach is no
+ * number where there are none. */
+struct looks {
+    double reach;
+    struct rings near, far;
+    int is_far;
+};
+
+/* The radius that holds so much of a source's light. It is sought near the centre first, within so many times the
+ * reach, since that is quicker, and taken from there where it is less than `enough` times the reach. */
+static double sought(const struct field *field, int64_t source, struct looks *looks, double reach, double light,
+                     double near, double enough)
 {
+    if (reach != looks->reach) {
+        looks->near = rings_within(field, source, near * reach);
+        looks->reach = reach;
+        looks->is_far = 0;
+    }
+    double radius = radius_holding(&looks->near, near * reach, light);
+    if (!(radius >= enough * reach))
+        return radius;
+    if (!looks->is_far)
+        looks->far = rings_within(field, source, reach);
+    looks->is_far = 1;
+    return radius_holding(&looks->far, reach, light);
+}
+
+/* The radii that hold half of fluxes, within reaches, so many for each source: for all sources the first, then the
+ * next. Where the reach is that of the one before, the light has been summed. */
+LOOP void half_radii(const struct field *field, int64_t count, const double *restrict reaches,
+                     const double *restrict fluxes, double near, double enough, double *restrict radii)
+{
+    struct looks looks;
     for (int64_t source = 0; source < field->sources; source++) {
-        double reach = reaches[source], half = 0.5 * fluxes[source];
-        radii[source] = radius_holding(rings_within(field, source, near * reach), near * reach, half);
-        if (radii[source] >= enough * reach)
-            radii[source] = radius_holding(rings_within(field, source, reach), reach, half);
+        looks.reach = NAN;
+        for (int64_t which = 0; which < count; which++) {
+            int64_t at = which * field->sources + source;
+            radii[at] = sought(field, source, &looks, reaches[at], 0.5 * fluxes[at], near, enough);
+        }
     }
 }

@@ -42,7 +42,7 @@ _FIELD, _REALS, _FLUXES = ctypes.POINTER(_Field), array("f8"), (*[array("f8")] *
 _CIRCLES = Loop("circles", _FIELD, whole, _REALS, *_FLUXES)
 _ELLIPSES = Loop("ellipses", _FIELD, _REALS, _REALS, _REALS, _REALS, *_FLUXES)
 _KRON = Loop("kron_radii", _FIELD, _REALS, _REALS, _REALS, number, _REALS)
-_HALF = Loop("half_radii", _FIELD, _REALS, _REALS, number, number, _REALS)
+_HALF = Loop("half_radii", _FIELD, whole, _REALS, _REALS, number, number, _REALS)
 
 
 class Fluxes(NamedTuple):
@@ -197,20 +197,27 @@ class Apertures:
             return radius
         return sep.kron_radius(self._light, self._x, self._y, *shape, reach, **self._alone)[0]
 
-    def half_radius(self, reach, flux) -> numpy.ndarray:
-        """The radii of circles that hold half of these fluxes, at most `reach`, which is above 0, in pixels."""
-        reach, flux = self._each(reach, flux)
-        if _HALF and self._plain and (reach > 0).all():
-            radius = numpy.empty(len(self._x))
-            _HALF(self._field, reach, flux, NEAR, ENOUGH, radius)
-            return radius
-        half = self._half_by_sep(NEAR * reach, flux, numpy.arange(len(flux)))
+    def half_radii(self, reaches: Sequence, fluxes: Sequence) -> Sequence[numpy.ndarray]:
+        """The radii of circles that hold half of fluxes, at most as far as they reach, which is above 0, in pixels: of
+        all sources for the first reach and flux, and so on.
+        """
+        reaches, fluxes = self._each(*reaches), self._each(*fluxes)
+        if _HALF and self._plain and all((reach > 0).all() for reach in reaches):
+            count, radii = len(reaches), numpy.empty((len(reaches), len(self._x)))
+            lights = (numpy.reshape(it, radii.shape) for it in (reaches, fluxes))
+            _HALF(self._field, count, *lights, NEAR, ENOUGH, radii)
+            return list(radii)
+        return [self._half_by_sep(*both) for both in zip(reaches, fluxes)]
+
+    def _half_by_sep(self, reach: numpy.ndarray, flux: numpy.ndarray) -> numpy.ndarray:
+        """The same for one reach and flux."""
+        half = self._look_by_sep(NEAR * reach, flux, numpy.arange(len(flux)))
         further = numpy.flatnonzero(half >= ENOUGH * reach)
         if further.size:
-            half[further] = self._half_by_sep(reach, flux, further)
+            half[further] = self._look_by_sep(reach, flux, further)
         return half
 
-    def _half_by_sep(self, reach: numpy.ndarray, flux: numpy.ndarray, chosen: numpy.ndarray) -> numpy.ndarray:
+    def _look_by_sep(self, reach: numpy.ndarray, flux: numpy.ndarray, chosen: numpy.ndarray) -> numpy.ndarray:
         """The same of these sources, by one look."""
         x, y, numbers, reach, flux = (it[chosen] for it in (self._x, self._y, self._numbers, reach, flux))
         alone = {"segmap": self._segments, "seg_id": numbers}

@@ -292,10 +292,12 @@ def _gathered(pixels: _Pixels, residual: numpy.ndarray, catalogue: Rows) -> nump
     return numpy.sqrt(numpy.where(numpy.isfinite(mean), numpy.minimum(2 * mean, 1), 1))
 
 
-def _diameter(apertures: Apertures, reach: numpy.ndarray, flux: numpy.ndarray) -> numpy.ndarray:
+def _diameters(
+    apertures: Apertures, reaches: Sequence[numpy.ndarray], fluxes: Sequence[numpy.ndarray]
+) -> Sequence[numpy.ndarray]:
     """The diameters that hold half of these fluxes; NaN where there is none."""
-    half = apertures.half_radius(reach, numpy.nan_to_num(flux))
-    return numpy.where((flux > 0) & (half > 0), 2 * half, numpy.nan)
+    halves = apertures.half_radii(reaches, [numpy.nan_to_num(flux) for flux in fluxes])
+    return [numpy.where((flux > 0) & (half > 0), 2 * half, numpy.nan) for flux, half in zip(fluxes, halves)]
 
 
 @described
@@ -470,8 +472,9 @@ class _Sums:
         if len(diameters) == 1:
             in_circle = [it[:, 0] for it in in_circle]
         total = totals.of(points, circles.__getitem__, self._flux, self._error, self._size, split)
-        lights = [(self._long, self._flux), (numpy.maximum(self._long, totals.reach(points)), total[0])]
-        across = [_diameter(self._apertures, *light) for light in lights[: 1 if points is None else 2]]
+        reaches, fluxes = (self._long, numpy.maximum(self._long, totals.reach(points))), (self._flux, total[0])
+        count = 1 if points is None else 2
+        across = _diameters(self._apertures, reaches[:count], fluxes[:count])
         return {
             "FLUX_AUTO": self._flux,
             "FLUXERR_AUTO": self._error,

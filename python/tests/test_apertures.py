@@ -118,7 +118,16 @@ def test_half_radii(monkeypatch, seed):
     reach[::3] = numpy.round(reach[::3]) + 1
     rows, columns = (numpy.clip(numpy.round(at), 0, side - 1).astype(int) for at, side in zip((y, x), light.shape))
     flux[::4], flux[:6] = 2 * light[rows, columns][::4], [0, numpy.nan, numpy.inf, -numpy.inf, 1e308, -1e308]
-    the_same(monkeypatch, lambda: [found.half_radius(reach, flux)])
+    the_same(monkeypatch, lambda: found.half_radii([reach], [flux]))
+
+
+@pytest.mark.parametrize("seed", range(3))
+def test_half_radii_of_several_fluxes(monkeypatch, seed):
+    """Some of which are sought as far as the one before."""
+    found, rng, _, _ = some(seed)
+    reaches, fluxes = rng.exponential(5, (4, SOURCES)) + 0.05, rng.normal(20, 60, (4, SOURCES))
+    reaches[1], reaches[2, ::2], reaches[3, ::3] = reaches[0], reaches[1, ::2], reaches[2, ::3]
+    the_same(monkeypatch, lambda: found.half_radii(reaches, fluxes))
 
 
 @pytest.mark.parametrize("seed", range(3))
@@ -126,7 +135,7 @@ def test_half_radii_of_large_sources(monkeypatch, seed):
     """Their rings are wider than pixels."""
     found, rng, _, _ = some(seed, shape=(300, 250), sources=25)
     reach, flux = rng.uniform(200, 800, 25), rng.normal(0, 6000, 25)
-    the_same(monkeypatch, lambda: [found.half_radius(reach, flux), found.half_radius(230.0, flux)])
+    the_same(monkeypatch, lambda: found.half_radii([reach, 230.0, 230.0], [flux, flux, -flux]))
 
 
 @pytest.mark.parametrize("share", [1, numpy.nextafter(1, 0), numpy.nextafter(1, 2)])
@@ -136,7 +145,7 @@ def test_pixels_whose_corners_are_at_a_ring_s_edge(monkeypatch, share):
         for place in (0.7072, apertures.NEAR * reach / 64 - 0.7072):
             x = numpy.full(len(flux), place * share)
             found = apertures.Apertures(light, 1.0, light < 0, [[1]], numpy.ones(len(x), dtype=int), x, 0 * x)
-            the_same(monkeypatch, lambda: [found.half_radius(reach, flux)])
+            the_same(monkeypatch, lambda: found.half_radii([reach], [flux]))
 
 
 @pytest.mark.parametrize("shape", [(1, 1), (1, 40), (40, 1), (30, 50)])
@@ -149,7 +158,7 @@ def test_sources_that_are_nowhere(monkeypatch, shape, noise, holes):
         for radius in (3.0, 1e3, 1e300):
             the_same(monkeypatch, lambda: found.in_ellipses(*ellipse[:3], radius))
             the_same(monkeypatch, lambda: [found.kron_radius(*ellipse[:3], radius)])
-            the_same(monkeypatch, lambda: [found.half_radius(radius, 5.0)])
+            the_same(monkeypatch, lambda: found.half_radii([radius], [5.0]))
 
 
 def test_ellipses_without_a_size(monkeypatch):
@@ -172,7 +181,7 @@ def test_pixels_that_are_no_numbers(monkeypatch):
         the_same(monkeypatch, lambda: found.in_circles([4.0])[0])
         the_same(monkeypatch, lambda: found.in_ellipses(*ellipse))
         the_same(monkeypatch, lambda: [found.kron_radius(*ellipse[:3], 6.0)])
-        the_same(monkeypatch, lambda: [found.half_radius(4.0, 20.0)])
+        the_same(monkeypatch, lambda: found.half_radii([4.0], [20.0]))
 
 
 @pytest.mark.parametrize("numbers", [[0, 1, 2], [-1, -2, 3]])
@@ -182,7 +191,7 @@ def test_numbers_that_are_no_source_s(monkeypatch, numbers):
     found = apertures.Apertures(light, 1.0, light < 0, own, numbers, [2, 3, 4], [5, 4, 3])
     the_same(monkeypatch, lambda: found.in_circles([3.0])[0])
     the_same(monkeypatch, lambda: found.in_ellipses(2, 1, 0, 2))
-    the_same(monkeypatch, lambda: [found.kron_radius(2, 1, 0, 2), found.half_radius(3.0, 5.0)])
+    the_same(monkeypatch, lambda: [found.kron_radius(2, 1, 0, 2), *found.half_radii([3.0], [5.0])])
 
 
 def test_no_sources_and_no_circles(monkeypatch):
@@ -190,8 +199,9 @@ def test_no_sources_and_no_circles(monkeypatch):
     found = apertures.Apertures(light, 1.0, light < 0, light.astype(int), [], [], [])
     the_same(monkeypatch, lambda: found.in_circles([3.0])[0])
     the_same(monkeypatch, lambda: found.in_ellipses(2, 1, 0, 2))
-    the_same(monkeypatch, lambda: [found.kron_radius(2, 1, 0, 2), found.half_radius(3.0, 5.0)])
+    the_same(monkeypatch, lambda: [found.kron_radius(2, 1, 0, 2), *found.half_radii([3.0], [5.0])])
     assert both(monkeypatch, lambda: found.in_circles([])) == ([], [])
+    assert both(monkeypatch, lambda: found.half_radii([], [])) == ([], [])
 
 
 def test_other_types_and_orders_of_numbers(monkeypatch):
@@ -230,7 +240,7 @@ def test_shapes_that_are_none(monkeypatch):
     for shape in ((1, 2, 0, 3), (2, 1, 1.6, 3), (2, 1, 0, -1), (numpy.nan, 1, 0, 3), (2, 1, numpy.nan, 3)):
         both(monkeypatch, lambda: refused(lambda: found.in_ellipses(*shape)))
     both(monkeypatch, lambda: refused(lambda: found.in_circles([3.0, -1.0])))
-    both(monkeypatch, lambda: refused(lambda: found.half_radius(-1.0, 5.0)))
+    both(monkeypatch, lambda: refused(lambda: found.half_radii([-1.0], [5.0])))
 
 
 def test_images_of_other_sides():
