@@ -5,13 +5,6 @@
 
 #include <string.h>
 
-/* The same loop for wider vectors, where the processor has them. */
-#if defined(__x86_64__) && defined(__GNUC__) && !defined(__clang__)
-#define VECTORS __attribute__((target_clones("avx512f", "avx2", "default")))
-#else
-#define VECTORS
-#endif
-
 /* An image, which of its pixels are chosen, and what the chosen ones among the rows at work have in each column: how
  * many they are, and their sum. */
 struct columns {

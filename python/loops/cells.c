@@ -3,12 +3,6 @@
 
 #include "loops.h"
 
-#if defined(__x86_64__) && defined(__GNUC__) && !defined(__clang__)
-#define VECTORS __attribute__((target_clones("avx512f", "avx2", "default")))
-#else
-#define VECTORS
-#endif
-
 /* The range of each column with what a row has; what isn't a number doesn't count. */
 static inline void widen(const float *restrict row, const uint8_t *restrict left_out, int64_t width,
                          float *restrict low, float *restrict high)

@@ -4,13 +4,6 @@
 
 #include <math.h>
 
-/* The same loop for wider vectors, where the processor has them. */
-#if defined(__x86_64__) && defined(__GNUC__) && !defined(__clang__)
-#define VECTORS __attribute__((target_clones("avx512f", "avx2", "default")))
-#else
-#define VECTORS
-#endif
-
 /* Of pixels that lie near components, or not, tells which ones lie beside all of them: not near one, defined and below
  * the threshold. */
 VECTORS

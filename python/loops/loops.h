@@ -8,4 +8,11 @@
 /* A function that Python calls. */
 #define LOOP __attribute__((visibility("default")))
 
+/* A function that is compiled for wider vectors too, where the processor has them. */
+#if defined(__x86_64__) && defined(__GNUC__) && !defined(__clang__)
+#define VECTORS __attribute__((target_clones("avx512f", "avx2", "default")))
+#else
+#define VECTORS
+#endif
+
 #endif

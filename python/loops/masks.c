@@ -5,12 +5,6 @@
 
 #include "loops.h"
 
-#if defined(__x86_64__) && defined(__GNUC__) && !defined(__clang__)
-#define VECTORS __attribute__((target_clones("avx512f", "avx2", "default")))
-#else
-#define VECTORS
-#endif
-
 /* One more row, or one less. */
 static inline void count_row(const uint8_t *restrict row, int64_t width, int more, uint16_t *restrict counts)
 {

@@ -3,13 +3,6 @@
 #include "loops.h"
 #include "stored.h"
 
-/* The same loop for wider vectors, where the processor has them. */
-#if defined(__x86_64__) && defined(__GNUC__) && !defined(__clang__)
-#define VECTORS __attribute__((target_clones("avx512f", "avx2", "default")))
-#else
-#define VECTORS
-#endif
-
 /* Of so many pixels one is looked for at once; and so many rows further on it is sooner to look for a row's pixels than
  * to go through those before. */
 enum { BLOCK = 32, FAR = 4 };

@@ -5,13 +5,6 @@
 #include <float.h>
 #include <math.h>
 
-/* The same loop for wider vectors, where the processor has them. */
-#if defined(__x86_64__) && defined(__GNUC__) && !defined(__clang__)
-#define VECTORS __attribute__((target_clones("avx512f", "avx2", "default")))
-#else
-#define VECTORS
-#endif
-
 /* The nearest whole numbers of so many times the scaled ones, no further from 0 than the greatest, which 32 bits hold;
  * and the least number of 32 bits for what isn't finite. */
 VECTORS

@@ -7,23 +7,17 @@
 #include "loops.h"
 #include "masks.h"
 
-#if defined(__x86_64__) && defined(__GNUC__) && !defined(__clang__)
-#define VECTORS __attribute__((target_clones("avx512f", "avx2", "default")))
-#else
-#define VECTORS
-#endif
-
 /* ---- between the centres of cells */
 
 /* The numbers of a mesh's cells. */
-typedef struct {
+struct grid {
     const double *numbers;
     int64_t rows, columns, mesh;
-} Grid;
+};
 
 /* The numbers at a row of pixels, linear between the cells' centres and on in a straight line beyond the outermost; and
  * so one more at both ends. The grid has two columns or more. */
-static inline void row_at(const Grid *grid, int64_t y, double *restrict found)
+static inline void row_at(const struct grid *grid, int64_t y, double *restrict found)
 {
     double at = ((double)y + 0.5) / (double)grid->mesh - 0.5, lower = floor(at);
     int64_t last = grid->rows > 1 ? grid->rows - 2 : 0;
@@ -58,7 +52,7 @@ VECTORS LOOP void between_centres(const double *numbers, int64_t rows, int64_t c
 {
     if (rows < 1 || columns < 2 || mesh < 1 || left < 0 || width > columns * mesh - left)
         return;
-    Grid grid = {numbers, rows, columns, mesh};
+    const struct grid grid = {numbers, rows, columns, mesh};
     for (int64_t y = 0; y < height; y++) {
         row_at(&grid, top + y, room);
         int64_t piece = (left + mesh - mesh / 2) / mesh, begin = piece * mesh + mesh / 2 - mesh - left;

@@ -9,13 +9,6 @@
 #include <stdbool.h>
 #include <string.h>
 
-/* The same loop for wider vectors, where the processor has them. */
-#if defined(__x86_64__) && defined(__GNUC__) && !defined(__clang__)
-#define VECTORS __attribute__((target_clones("avx512f", "avx2", "default")))
-#else
-#define VECTORS
-#endif
-
 /* So many rows and columns of an image are smoothed at a time, and rows at work have whole multiples of so many. */
 enum { ROWS = 64, COLUMNS = 256, LANES = 16 };
 

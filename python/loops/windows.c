@@ -6,11 +6,6 @@
 #include <stddef.h>
 #include <string.h>
 
-#if defined(__x86_64__) && defined(__GNUC__) && !defined(__clang__)
-#define VECTORS __attribute__((target_clones("avx512f", "avx2", "default")))
-#else
-#define VECTORS
-#endif
 #define INLINE static inline __attribute__((always_inline))
 
 /* How many sums are made beside each other; the powers of places are from 0 to 2. */

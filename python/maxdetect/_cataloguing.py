@@ -199,9 +199,7 @@ def done(task: Task, given: argparse.Namespace, tiles, progress) -> str:
             filled = checks.writer({kind: each[number] for kind, each in shown.items()})
             told = _told(filled, skies) if given.report else filled
             more = {"bands": task.bands[number], "told": told, "progress": progress}
-            # In one process it would take room in memory beside the windows, and the time of their work.
-            if tiles is not None:
-                more["meanwhile"] = functools.partial(load, task, given, number)
+            more["meanwhile"] = functools.partial(load, task, given, number)
             with _room_for_map(segments, field.shape, tiles) as room:
                 table = detection.sources(field, tiles, segments=segments, room=room, **more)
             _count_on(table, segments, sum(map(len, found)))

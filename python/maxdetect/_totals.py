@@ -11,7 +11,7 @@ import numpy
 
 from ._pointlike import PointSources
 
-__all__ = ["of", "reach"]
+__all__ = ["of", "reach", "sizes"]
 
 # The radii of the circle from which a point source gets its flux, and of the one that tells whether a source is wider,
 # in widths of a point source; and the width in pixels that is taken at least, since where a star stands in a pixel
@@ -25,9 +25,14 @@ NARROW, WIDE, SPLIT = 0.04, 0.14, 2.0
 Fluxes = Tuple[numpy.ndarray, numpy.ndarray]
 
 
+def sizes(points: Optional[PointSources]) -> Tuple[float, ...]:
+    """The radii of the circles, in pixels: from the least on, none without point sources."""
+    return tuple(times * max(points.width, LEAST_WIDTH) for times in (NEAR, FAR)) if points else ()
+
+
 def reach(points: Optional[PointSources]) -> float:
     """The radius of the largest circle, in pixels."""
-    return FAR * max(points.width, LEAST_WIDTH) if points else 0.0
+    return max(sizes(points), default=0.0)
 
 
 def _wide(near: numpy.ndarray, far: numpy.ndarray, split: numpy.ndarray) -> Tuple[numpy.ndarray, numpy.ndarray]:
@@ -59,8 +64,9 @@ def of(
     """
     if points is None:
         return flux, error
-    sizes = (times * max(points.width, LEAST_WIDTH) for times in (NEAR, FAR))
-    (near, near_error), (far, far_error) = (tuple(it / points.share(size) for it in circle(size)) for size in sizes)
+    (near, near_error), (far, far_error) = (
+        tuple(it / points.share(size) for it in circle(size)) for size in sizes(points)
+    )
     flux, error = (it / points.share(radius) for it in (flux, error))
     wide, slope = _wide(near, far, split)
     # The circles lie within the ellipse: its noise is that of the inner one, that of the ring around it, which tells

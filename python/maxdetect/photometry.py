@@ -418,12 +418,6 @@ def _in_units(name: str, values: numpy.ndarray, unit: float) -> numpy.ndarray:
     return values * unit if name.startswith(("FLUX_", "FLUXERR_")) and name != "FLUX_RADIUS" else values
 
 
-def _of_totals(points: Optional[PointSources]) -> Sequence[float]:
-    """The radii of the circles that total fluxes are told by."""
-    width = max(points.width, totals.LEAST_WIDTH) if points else 0.0
-    return [times * width for times in (totals.NEAR, totals.FAR)] if points else []
-
-
 class _Sums:
     """The sums in apertures of sources, and what they tell. `gathered` says by how much closer the light of each lies
     than its pixels do, and `kron` how far its Kron ellipse reaches.
@@ -467,7 +461,7 @@ class _Sums:
     ) -> Dict[str, numpy.ndarray]:
         """The columns that are measured in apertures; `split` says which sources were split from a neighbour."""
         (long, short, angle), radii = self._ellipses, [diameter / 2 for diameter in diameters]
-        circles = self._circles([*radii, *_of_totals(points)])
+        circles = self._circles([*radii, *totals.sizes(points)])
         in_circle = [numpy.stack(it, axis=-1) for it in zip(*(circles[radius] for radius in radii))]
         if len(diameters) == 1:
             in_circle = [it[:, 0] for it in in_circle]
