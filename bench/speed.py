@@ -4,7 +4,7 @@ image's memory, in one run; prints a table in Markdown.
 usage: /usr/bin/python3 bench/speed.py MAXDETECT MAXWIDE [--runs N] [--workers N] [--side SIDE] [--large [SIDE]] [--only-large]
                                                [--many N]
 
-MAXDETECT and MAXWIDE are the built programs. The image is a star field of 4096 x 4096 floating-point numbers with 42,000 stars, of
+MAXDETECT and MAXWIDE are the built programs; the package's loops in C are compiled first, where a compiler is. The image is a star field of 4096 x 4096 floating-point numbers with 42,000 stars, of
 which some 33,000 are found. The script of SEP reads it, estimates the background, extracts with the same threshold
 and least area, measures isophotal and Kron fluxes with errors, a circle and half-light radii, and writes a catalogue
 in FITS. Source Extractor has that threshold and area too, and measures these fluxes, ellipses, half-light radii,
@@ -222,6 +222,7 @@ def main():
     parser.add_argument("--side", type=int, default=4096)
     parser.add_argument("--many", type=int)
     given = parser.parse_args()
+    subprocess.run([TOP / "scripts" / "loops"], check=False)
     programs = {"MAXDETECT": os.fspath(given.maxdetect.resolve()), "MAXWIDE": os.fspath(given.maxwide.resolve())}
     maxcat = [sys.executable, "-m", "maxdetect._cli"]
     with tempfile.TemporaryDirectory() as name:
