@@ -4,16 +4,16 @@ image's memory, in one run; prints a table in Markdown.
 usage: /usr/bin/python3 bench/speed.py MAXDETECT MAXWIDE [--runs N] [--workers N] [--side SIDE] [--large [SIDE]] [--only-large]
                                                [--many N]
 
-MAXDETECT and MAXWIDE are the built programs; the package's loops in C are compiled first, where a compiler is. The image is a star field of 4096 x 4096 floating-point numbers with 42,000 stars, of
-which some 33,000 are found. The script of SEP reads it, estimates the background, extracts with the same threshold
-and least area, measures isophotal and Kron fluxes with errors, a circle and half-light radii, and writes a catalogue
-in FITS. Source Extractor has that threshold and area too, and measures these fluxes, ellipses, half-light radii,
-windowed centres with errors, and sky coordinates. The least time of N runs counts (3 if left out), by the clock and in
-processor seconds, of which a busy machine takes less note; the share is of the first row's processor seconds. Memory is
-the most that all processes of a run held together, mapped files among it. With --side the image has another side, and
-with --large an image of SIDE x SIDE pixels (10,000 if no number follows) goes through `maxcat` as well; with --many N
-images of 512 x 512 pixels go through it in one call, and through Source Extractor in N. Run it with nothing else
-running.
+MAXDETECT and MAXWIDE are the built programs; the package's loops in C are compiled first, where a compiler is. The
+image is a star field of 4096 x 4096 floating-point numbers with 42,000 stars, of which some 33,000 are found. The
+script of SEP reads it, estimates the background, extracts with the same threshold and least area, measures isophotal
+and Kron fluxes with errors, a circle and half-light radii, and writes a catalogue in FITS. Source Extractor has that
+threshold and area too, and measures these fluxes, ellipses, half-light radii, windowed centres with errors, and sky
+coordinates. The least time of N runs counts (3 if left out), by the clock and in processor seconds, of which a busy
+machine takes less note; the share is of the first row's processor seconds. Memory is the most that all processes of a
+run held together, mapped files among it. With --side the image has another side, and with --large an image of SIDE x
+SIDE pixels (10,000 if no number follows) goes through `maxcat` as well; with --many N images of 512 x 512 pixels go
+through it in one call, and through Source Extractor in N. Run it with nothing else running.
 """
 import argparse
 import contextlib
