@@ -142,22 +142,46 @@ def sources(
     FLUX_TOTAL is told by point sources (GROWTH), how many sources were left out as peaks of noise on faint light
     (NCLEANED), and the noise: SIGMA, or with a weight map NOISE, about the middle of the image.
     """
-    detector, wanted = _detector(field, executor, program), segments is not None
-    segments = room if segments is None else segments
-    segments = numpy.zeros(field.shape, dtype="i4") if segments is None else segments
-    progress(0)
-    found = _found(detector, executor, segments, progress, meanwhile)
-    skies = _Skies.of(detector, segments, executor)
-    table = _measured(detector, skies, found.rows, segments, executor, bands or {}, progress)
-    if told is not None:
-        told(detector, skies.beside, skies.own, table)
-    table["FLAGS"] |= numpy.where(found.cut, CUT, 0).astype(table["FLAGS"].dtype)
-    if field.settings.wide:
-        table = _with_wide(detector, table, segments, executor, bands or {})
+    wanted = segments is not None
+    with _hands(field, executor) as hands:
+        detector = _detector(field, hands, program)
+        segments = room if segments is None else segments
+        segments = numpy.zeros(field.shape, dtype="i4") if segments is None else segments
+        progress(0)
+        found = _found(detector, hands, segments, progress, meanwhile)
+        skies = _Skies.of(detector, segments, hands)
+        table = _measured(detector, skies, found.rows, segments, hands, bands or {}, progress)
+        if told is not None:
+            told(detector, skies.beside, skies.own, table)
+        table["FLAGS"] |= numpy.where(found.cut, CUT, 0).astype(table["FLAGS"].dtype)
+        if field.settings.wide:
+            table = _with_wide(detector, table, segments, hands, bands or {})
     if wanted:
         joining.hide(segments)
     table.meta.update(_meta(detector, skies, found))
     return table
+
+
+class _TwoThreads(concurrent.futures.ThreadPoolExecutor):
+    """Those of a worker that has a field to itself."""
+
+    def __init__(self):
+        super().__init__(2)
+
+
+@contextlib.contextmanager
+def _hands(field: Field, executor: Optional[concurrent.futures.Executor]):
+    """What works on the parts of a field: the executor, or two threads, where one worker has a large field to itself.
+    One of them goes on while the other's program is at work, or a loop in C. In one of several workers each has a
+    processor of its own.
+    """
+    with contextlib.ExitStack() as stack:
+        if executor is None and max(field.shape) > field.settings.tile and multiprocessing.parent_process() is None:
+            spare.one_heap()
+            stack.callback(sys.setswitchinterval, sys.getswitchinterval())
+            sys.setswitchinterval(SWITCH)
+            executor = stack.enter_context(_TwoThreads())
+        yield executor
 
 
 def _detector(
@@ -190,10 +214,10 @@ def _found(
 ) -> _Found:
     """The sources of all tiles; the map has them."""
     gathered, plan = joining.Gathered(segments, progress), detector.plan
-    with _at_work(detector, executor, plan) as pool:
+    with _taking_turns(detector, executor):
 
         def made(tiles: List[Tuple[Box, Box]]) -> Iterator[holding.Piece]:
-            return each(pool, _Tile(detector), tiles, meanwhile)
+            return each(executor, _Tile(detector), tiles, meanwhile)
 
         left = plan.looked_at(made, gathered.take)
         if left and detector.whole.pixels <= plan.largest:
@@ -201,7 +225,7 @@ def _found(
             detector.share_strips()
             gathered.take(detector(detector.whole, detector.whole))
         elif left:
-            for piece in each(pool, _Tile(detector, holding.cut_piece), left):
+            for piece in each(executor, _Tile(detector, holding.cut_piece), left):
                 gathered.take(piece)
     table, cut = gathered.rows(executor)
     return _Found(table, cut, gathered.count - len(table))
@@ -220,23 +244,17 @@ def _meta(detector: Detector, skies: "_Skies", found: _Found) -> Dict[str, Any]:
 
 
 @contextlib.contextmanager
-def _at_work(detector: Detector, executor: Optional[concurrent.futures.Executor], plan: Plan):
-    """What tiles run in. Where they follow each other the next one is prepared while the program looks at one: both the
-    program and Python have one in hand at a time, so that memory has room for both. In one of several workers each has
-    a processor of its own.
+def _taking_turns(detector: Detector, executor: Optional[concurrent.futures.Executor]):
+    """Where two threads look at tiles, one is prepared while the program looks at another: both the program and Python
+    have one in hand at a time, so that memory has room for both.
     """
-    alone = executor is None and len(plan.cores()) > 1 and multiprocessing.parent_process() is None
     with contextlib.ExitStack() as stack:
         stack.callback(spare.give_back)
-        if alone:
-            spare.one_heap()
-            stack.callback(sys.setswitchinterval, sys.getswitchinterval())
-            sys.setswitchinterval(SWITCH)
+        if isinstance(executor, _TwoThreads):
             for name in ("own_turn", "program_turn"):
                 stack.callback(setattr, detector, name, contextlib.nullcontext())
                 setattr(detector, name, threading.Lock())
-            executor = stack.enter_context(concurrent.futures.ThreadPoolExecutor(2))
-        yield executor
+        yield
 
 
 class _Skies(NamedTuple):
