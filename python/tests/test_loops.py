@@ -15,8 +15,10 @@ from maxdetect import _loops as loops
 @pytest.fixture(scope="session")
 def compiled(tmp_path_factory):
     """The library, compiled anew."""
-    if not shutil.which(os.environ.get("CC", "cc")):
-        pytest.skip("the loops in C want a compiler")
+    compiler = shutil.which(os.environ.get("CC", "cc"))
+    # It may stand there without the C library's headers.
+    if not compiler or subprocess.run([compiler, "-E", "-"], input=b"#include <math.h>", capture_output=True).returncode:
+        pytest.skip("the loops in C want gcc and libc6-dev")
     library = tmp_path_factory.mktemp("loops") / "libloops.so"
     subprocess.run([TOP / "scripts" / "loops", library], check=True)
     return library
