@@ -8,6 +8,7 @@ import numpy
 import sep
 
 from ._cells import ranges
+from ._loops import Loop, array, whole
 from ._sky import Sky, filled, grown, medians
 
 # How far a source's light reaches beyond its pixels.
@@ -15,6 +16,16 @@ GROWTH = 4
 # Least share of a row of cells that they are looked at without what lies near sources, and of a cell that has to be
 # left.
 LEAST_SHARE, ENOUGH = 0.4, 0.5
+# How many cells the loop looks at together, how many bins their histograms have at most, and up to how many pixels of a
+# cell it sums up as SEP does.
+TOGETHER, MOST_BINS, MOST_PIXELS = 8, 4096, 2**29
+
+_COUNTS = array("i4")
+_LEVELS = Loop(
+    "clipped_levels",
+    *(array("f4"), array("?"), whole, whole, whole, array("i8"), whole),
+    *(array("f4"), _COUNTS, _COUNTS, array("f4"), array("f4")),
+)
 
 
 def unit_of(values: Union[float, numpy.ndarray]) -> float:
@@ -55,6 +66,20 @@ def _of_cell(values: numpy.ndarray, left_out: numpy.ndarray) -> Tuple[float, flo
     return found.globalback, found.globalrms
 
 
+def _of_cells(values: numpy.ndarray, left_out: numpy.ndarray, mesh: int, places: numpy.ndarray) -> numpy.ndarray:
+    """The levels of the cells at these places in a row of cells and their noise, two rows of numbers."""
+    mesh = min(mesh, values.shape[1])
+    if not _LEVELS or values.dtype != "f4" or len(values) * mesh >= MOST_PIXELS:
+        columns = [slice(left, left + mesh) for left in (places * mesh).tolist()]
+        return numpy.array([_of_cell(values[:, it], left_out[:, it]) for it in columns]).reshape(-1, 2).T
+    levels, noise = numpy.empty((2, len(places)), dtype="f4")
+    kept = numpy.empty(TOGETHER * len(values) * mesh, dtype="f4")
+    bins, below = numpy.empty((2, MOST_BINS + 1), dtype="i4")
+    pixels, outside = map(numpy.ascontiguousarray, (values, left_out))
+    _LEVELS(pixels, outside, *values.shape, mesh, places, len(places), kept, bins, below, levels, noise)
+    return numpy.array([levels, noise])
+
+
 def of_row(
     residual: numpy.ndarray, undefined: numpy.ndarray, segments: numpy.ndarray, within: slice, mesh: int
 ) -> numpy.ndarray:
@@ -70,9 +95,8 @@ def of_row(
     share = outside / area
     cells = numpy.array([low, numpy.zeros(len(lefts))])
     cells[:, share > 1 - ENOUGH] = numpy.nan
-    for number in numpy.flatnonzero((share <= 1 - ENOUGH) & (low < high)).tolist():
-        columns = slice(int(lefts[number]), int(lefts[number]) + mesh)
-        cells[:, number] = _of_cell(scaled[:, columns], left_out[:, columns])
+    places = numpy.flatnonzero((share <= 1 - ENOUGH) & (low < high)).astype("i8")
+    cells[:, places] = _of_cells(scaled, left_out, mesh, places)
     return cells * unit
 
 
