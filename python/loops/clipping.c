@@ -244,8 +244,8 @@ static inline void clip(const struct room *room, int32_t bins, double *level, do
 }
 
 /* The level and the noise of a cell from its pixels' bins. */
-static inline void level_of(const struct room *room, int64_t count, struct scale scale, double mean, int cell,
-                            float *level, float *noise)
+VECTORS static void level_of(const struct room *room, int64_t count, struct scale scale, double mean, int cell,
+                             float *level, float *noise)
 {
     double found = (float)mean, deviation = 0;
     count_bins(room->pixels + cell, count, scale.bins, room);
@@ -257,8 +257,8 @@ static inline void level_of(const struct room *room, int64_t count, struct scale
 }
 
 /* The levels and the noise of the cells that are looked at together. */
-static inline void levels_together(const struct row *row, struct cells cells, const struct room *room, float *levels,
-                                   float *noise)
+VECTORS static void levels_together(const struct row *row, struct cells cells, const struct room *room, float *levels,
+                                    float *noise)
 {
     int64_t counts[TOGETHER] = {0}, most = gather(row, cells, room->pixels, counts);
     values low = (values){0} + nextafterf(NO_VALUE, 0), high = (values){0} + INFINITY;
@@ -281,9 +281,9 @@ static inline void levels_together(const struct row *row, struct cells cells, co
 /* The level and the noise of the cells at these places in a row of cells, by their pixels that aren't left out; 0 and 1
  * where fewer than half have a value. There is room for TOGETHER times the pixels of a cell in `kept`, and for
  * MOST_BINS + 1 numbers in each of `bins` and `below`. A cell has fewer than 2^29 pixels. */
-VECTORS LOOP void clipped_levels(const float *pixels, const uint8_t *left_out, int64_t height, int64_t width,
-                                 int64_t mesh, const int64_t *places, int64_t count, float *kept, int32_t *bins,
-                                 int32_t *below, float *levels, float *noise)
+LOOP void clipped_levels(const float *pixels, const uint8_t *left_out, int64_t height, int64_t width, int64_t mesh,
+                         const int64_t *places, int64_t count, float *kept, int32_t *bins, int32_t *below,
+                         float *levels, float *noise)
 {
     const struct row row = {pixels, left_out, height, width, mesh};
     const struct room room = {kept, bins, below};

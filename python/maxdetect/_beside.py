@@ -77,7 +77,7 @@ def _of_cells(values: numpy.ndarray, left_out: numpy.ndarray, mesh: int, places:
     bins, below = numpy.empty((2, MOST_BINS + 1), dtype="i4")
     pixels, outside = map(numpy.ascontiguousarray, (values, left_out))
     _LEVELS(pixels, outside, *values.shape, mesh, places, len(places), kept, bins, below, levels, noise)
-    return numpy.array([levels, noise])
+    return numpy.array([levels, noise], dtype="f8")
 
 
 def of_row(

@@ -165,3 +165,52 @@ def test_the_sky_beside_sources(monkeypatch, shape):
             segments = (rng.random((shape[0] + 8, shape[1])) < share).astype("i4")
             within = slice(4, 4 + shape[0])
             assert same(*both(monkeypatch, beside.of_row, residual, undefined, segments, within, 16))
+
+
+def cells_of_all_kinds(rng, shape):
+    """Rows of cells that clipped statistics tell apart, in units from the smallest to the largest."""
+    noise = rng.normal(0, 1, shape).astype("f4")
+    for unit in (1, 1e10, 1e-10, 1e30, 1e-30):
+        yield noise * numpy.float32(unit)
+    for level in (1, -10, 1e3, -1e5, 1e7):
+        yield noise + numpy.float32(level)
+    for levels in (0.2, 0.5, 1, 3, 30):
+        yield numpy.rint(noise * numpy.float32(levels))
+    for share in (0.01, 0.1, 0.3, 0.5):
+        for light in (3, 10, 1000):
+            yield noise + (rng.random(shape) < share) * rng.exponential(light, shape).astype("f4")
+    for share in (0.001, 0.03, 0.2, 0.5, 0.9):
+        yield (rng.random(shape) < share).astype("f4")
+    yield rng.choice(numpy.array([-1, 0, 0.5, 2], dtype="f4"), shape)
+    yield rng.choice(numpy.array([1e7, 1e7 + 1, 1e7 + 2], dtype="f4"), shape)
+    yield rng.uniform(-1, 1, shape).astype("f4")
+    yield rng.exponential(1, shape).astype("f4")
+    yield rng.standard_cauchy(shape).astype("f4")
+    yield numpy.exp(rng.normal(0, 4, shape)).astype("f4")
+    yield rng.choice(numpy.array([-3e38, -1e30, 0, 1, 3e38, numpy.inf, -numpy.inf], dtype="f4"), shape)
+    yield numpy.where(rng.random(shape) < 0.01, numpy.float32(-1e31), noise)
+    yield numpy.full(shape, 0.1, dtype="f4")
+
+
+@pytest.mark.parametrize(
+    "shape, mesh",
+    [((64, 1324), 64), ((63, 640), 64), ((16, 260), 16), ((3, 90), 5), ((1, 40), 2), ((2, 9), 1), ((90, 250), 100)],
+)
+@pytest.mark.parametrize("share", [0, 0.02, 0.3, 0.49, 0.6, 1])
+def test_levels_and_noise_of_cells(monkeypatch, shape, mesh, share):
+    rng = numpy.random.default_rng(8)
+    every = numpy.arange(cells.cells_along(shape[1], mesh))
+    for values in cells_of_all_kinds(rng, shape):
+        left_out = rng.random(shape) < share
+        for places in (every, every[rng.random(len(every)) < 0.5], every[:0]):
+            assert same(*both(monkeypatch, beside._of_cells, values, left_out, mesh, places))
+        # What is left out may be anything.
+        values[left_out] = numpy.nan
+        assert same(*both(monkeypatch, beside._of_cells, values, left_out, mesh, every))
+
+
+def test_levels_and_noise_of_one_large_cell(monkeypatch):
+    rng = numpy.random.default_rng(9)
+    for values in cells_of_all_kinds(rng, (300, 400)):
+        left_out = rng.random(values.shape) < 0.2
+        assert same(*both(monkeypatch, beside._of_cells, values, left_out, 1000, numpy.arange(1)))
