@@ -16,9 +16,9 @@ GROWTH = 4
 # Least share of a row of cells that they are looked at without what lies near sources, and of a cell that has to be
 # left.
 LEAST_SHARE, ENOUGH = 0.4, 0.5
-# How many cells the loop looks at together, how many bins their histograms have at most, and up to how many pixels of a
-# cell it sums up as SEP does.
-TOGETHER, MOST_BINS, MOST_PIXELS = 8, 4096, 2**29
+# How many cells the loop looks at together, how many bins their histograms have at most, and how many pixels a cell may
+# have that it isn't left to SEP: the loop's room is as large as so many cells.
+TOGETHER, MOST_BINS, MOST_PIXELS = 8, 4096, 2**18
 
 _COUNTS = array("i4")
 _LEVELS = Loop(
@@ -69,7 +69,7 @@ def _of_cell(values: numpy.ndarray, left_out: numpy.ndarray) -> Tuple[float, flo
 def _of_cells(values: numpy.ndarray, left_out: numpy.ndarray, mesh: int, places: numpy.ndarray) -> numpy.ndarray:
     """The levels of the cells at these places in a row of cells and their noise, two rows of numbers."""
     mesh = min(mesh, values.shape[1])
-    if not _LEVELS or values.dtype != "f4" or len(values) * mesh >= MOST_PIXELS:
+    if not _LEVELS or values.dtype != "f4" or len(values) * mesh > MOST_PIXELS:
         columns = [slice(left, left + mesh) for left in (places * mesh).tolist()]
         return numpy.array([_of_cell(values[:, it], left_out[:, it]) for it in columns]).reshape(-1, 2).T
     levels, noise = numpy.empty((2, len(places)), dtype="f4")
