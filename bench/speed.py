@@ -10,7 +10,7 @@ script of SEP reads it, estimates the background, extracts with the same thresho
 and Kron fluxes with errors, a circle and half-light radii, and writes a catalogue in FITS. Source Extractor has that
 threshold and area too, and measures these fluxes, ellipses, half-light radii, windowed centres with errors, and sky
 coordinates. The least time of N runs counts (3 if left out), by the clock and in processor seconds, of which a busy
-machine takes less note; the share is of the first row's processor seconds. Memory is the most that all processes of a
+machine takes less note; the share is of the first row's seconds by the clock. Memory is the most that all processes of a
 run held together, mapped files among it. With --side the image has another side, and with --large an image of SIDE x
 SIDE pixels (10,000 if no number follows) goes through `maxcat` as well; with --many N images of 512 x 512 pixels go
 through it in one call, and through Source Extractor in N. Run it with nothing else running.
@@ -167,16 +167,16 @@ class Printed:
 
     def __init__(self, folder, runs, environment):
         self.catalogue, self.runs, self.environment, self.first = folder / "catalogue.fits", runs, environment, None
-        print("| Image | Program | Seconds | Processor seconds | Share | Peak MB | Sources |")
+        print("| Image | Program | Seconds | Share | Processor seconds | Peak MB | Sources |")
         print("|---|---|---|---|---|---|---|")
 
     def add(self, label, program, commands, runs=None, counted=True):
         """A row of commands that follow each other, with the number of sources in the catalogue that they leave."""
         seconds, used, peak = best(commands, runs or self.runs, self.environment)
-        self.first = self.first or used
+        self.first = self.first or seconds
         with_rows = fits.getheader(self.catalogue, 1)["NAXIS2"] if counted else ""
-        share = f"{used / self.first:.2f}"
-        print(f"| {label} | {program} | {seconds:.2f} | {used:.2f} | {share} | {peak:.0f} | {with_rows} |", flush=True)
+        share = f"{seconds / self.first:.2f}"
+        print(f"| {label} | {program} | {seconds:.2f} | {share} | {used:.2f} | {peak:.0f} | {with_rows} |", flush=True)
 
 
 def one_image(rows, folder, given, maxcat):
@@ -184,9 +184,9 @@ def one_image(rows, folder, given, maxcat):
     image, label = folder / "image.fits", f"{given.side} x {given.side}"
     field(image, given.side)
     rows.first = None
-    rows.add(label, "SEP, one script", [[sys.executable, "-c", "\n".join(SEP), image, rows.catalogue]])
     if extractor(folder):
         rows.add(label, "Source Extractor", [[*extractor(folder), image]])
+    rows.add(label, "SEP, one script", [[sys.executable, "-c", "\n".join(SEP), image, rows.catalogue]])
     for workers in sorted({1, given.workers}):
         more = f"{workers} worker" + ("s" if workers > 1 else "")
         rows.add(label, f"`maxcat`, {more}", [[*maxcat, image, "-o", rows.catalogue, "--workers", str(workers)]])
