@@ -17,7 +17,8 @@ def compiled(tmp_path_factory):
     """The library, compiled anew."""
     compiler = shutil.which(os.environ.get("CC", "cc"))
     # It may stand there without the C library's headers.
-    if not compiler or subprocess.run([compiler, "-E", "-"], input=b"#include <math.h>", capture_output=True).returncode:
+    headers = [compiler or "false", "-E", "-"]
+    if subprocess.run(headers, input=b"#include <math.h>", capture_output=True).returncode:
         pytest.skip("the loops in C want gcc and libc6-dev")
     library = tmp_path_factory.mktemp("loops") / "libloops.so"
     subprocess.run([TOP / "scripts" / "loops", library], check=True)
