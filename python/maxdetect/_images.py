@@ -174,7 +174,7 @@ class Plane:
         hold the values, and else 64.
         """
         first, last, _ = rows.indices(self.shape[0])
-        if not self.mapped or last - first <= AT_ONCE:
+        if not self.mapped or last - first <= AT_ONCE or self._stands_as_it_is(less):
             return self._values(rows, columns, less)
         # A file's pages count as memory as long as they are looked at, and they have whole rows.
         values = self._values(slice(first, first + AT_ONCE), columns, less)
@@ -187,7 +187,12 @@ class Plane:
 
     def _values(self, rows: slice, columns: slice, less: int) -> numpy.ndarray:
         """The same, all of them at once."""
-        return self._checked(stored.values, self._numbers(rows, columns), self._meaning, less)
+        numbers = self._numbers(rows, columns)
+        return self._checked(stored.values, numbers, self._meaning, less, numbers.flags.owndata)
+
+    def _stands_as_it_is(self, less: int) -> bool:
+        """The file's numbers are its values less a whole number, and become those where they are read."""
+        return stored.reads_rows() and self._place[0] == ">f4" and self._meaning == stored.Meaning(zero=less)
 
     def _numbers(self, rows, columns) -> numpy.ndarray:
         """The stored numbers of some rows and columns."""
@@ -196,7 +201,7 @@ class Plane:
             first, last, _ = rows.indices(self.shape[0])
             offset += dtype.itemsize * self.shape[1] * (self._plane * self.shape[0] + first)
             with _readable(self.path):
-                return numpy.memmap(self.path, dtype, "r", offset, (max(last - first, 0), self.shape[1]))[:, columns]
+                return stored.rows_of_file(self.path, dtype, offset, (max(last - first, 0), self.shape[1]), columns)
         # Threads share it; one of them reads it.
         with self._lock:
             if self._whole is None:

@@ -7,6 +7,7 @@ import numpy
 from . import _maps as maps
 from ._executors import each
 from ._holding import Piece
+from ._loops import Loop, array, flag, whole
 from ._rows import Rows, behind_each_other
 from ._windows import firsts
 
@@ -14,6 +15,12 @@ __all__ = ["Gathered", "hide", "numbered", "renumber", "without_gaps"]
 
 
 Executor = Optional[concurrent.futures.Executor]
+
+# A map, how many pixels it has, the numbers, and how many they are.
+_RENUMBERED = Loop("renumbered", array("i4"), whole, array("i4"), whole)
+# A map, how many pixels, their places and owners, which are shown, the first number, and whether only pixels get one
+# that have none.
+_PUT_OWNERS = Loop("put_owners", array("i4"), whole, array("i8"), array("i4"), array("?"), flag, flag)
 
 
 # ---- numbers
@@ -37,8 +44,11 @@ class _Renumbered:
         self.numbers = numbers
 
     def __call__(self, part: maps.Part) -> None:
-        # Most pixels are no source's.
         own = part.pixels().reshape(-1)
+        if _RENUMBERED:
+            _RENUMBERED(own, len(own), self.numbers, len(self.numbers))
+            return
+        # Most pixels are no source's.
         some = numpy.flatnonzero(own != 0)
         own[some] = self.numbers[own[some]]
 
@@ -82,9 +92,13 @@ class Gathered:
 
     def take(self, piece: Piece) -> None:
         """Adds a piece. What a source has that is cut, no other one has already."""
-        numbers, flat = piece.owners + (self.count + 1), self.segments.reshape(-1)
-        free = flat[piece.pixels] == 0 if piece.cut.any() else slice(None)
-        flat[piece.pixels[free]] = numpy.where(piece.shown, numbers, -numbers)[free]
+        first, flat, alone = self.count + 1, self.segments.reshape(-1), bool(piece.cut.any())
+        if _PUT_OWNERS:
+            _PUT_OWNERS(flat, len(piece.pixels), piece.pixels, piece.owners, piece.shown, first, alone)
+        else:
+            numbers = piece.owners + first
+            free = flat[piece.pixels] == 0 if alone else slice(None)
+            flat[piece.pixels[free]] = numpy.where(piece.shown, numbers, -numbers)[free]
         maps.let_go(self.segments)
         self.count += len(piece.catalogue)
         self.tables.append(piece.catalogue)

@@ -4,17 +4,23 @@ astropy applies BLANK to some forms of a file and not to others, and adds BZERO 
 read as it is stored, and one function makes the values of all of them.
 """
 import dataclasses
-from typing import Optional, Union
+import os
+from typing import Optional, Tuple, Union
 
 import numpy
 from astropy.io import fits
 
 from . import _cards as cards, _compressed as compressed
+from ._loops import Loop, array, whole
 
-__all__ = ["Meaning", "meaning", "origin", "raw", "sums", "values"]
+__all__ = ["Meaning", "meaning", "origin", "raw", "reads_rows", "rows_of_file", "sums", "values"]
 
 # Whole numbers up to this one have no rounding in 32 bits of floating point, and in 64.
 EXACT_32, EXACT_64 = 2**24, 2**53
+
+# An open file, the place of the first byte, how many bytes a row has there, rows, columns, the bytes of a number, the
+# numbers as bytes, and what failed.
+_READ_ROWS = Loop("read_rows", *[whole] * 6, array("u1"), array("i4"))
 
 
 @dataclasses.dataclass(frozen=True)
@@ -69,6 +75,35 @@ def raw(hdu) -> Optional[numpy.ndarray]:
     return hdu.data
 
 
+def reads_rows() -> bool:
+    """`rows_of_file` makes an array of its own."""
+    return bool(_READ_ROWS)
+
+
+def rows_of_file(
+    path: str, dtype: numpy.dtype, offset: int, shape: Tuple[int, int], columns: slice = slice(None)
+) -> numpy.ndarray:
+    """Some columns of numbers that stand in a file row by row, from a byte on: an array of its own, or a part of the
+    file that is mapped. Raises OSError or ValueError where they can't be read.
+    """
+    begin, end, step = columns.indices(shape[1])
+    if not _READ_ROWS or not shape[0] or end <= begin or step != 1:
+        return numpy.memmap(path, dtype, "r", offset, shape)[:, columns]
+    found, failed = numpy.empty((shape[0], end - begin), dtype=dtype.newbyteorder("=")), numpy.zeros(1, dtype="i4")
+    size = dtype.itemsize
+    file = os.open(path, os.O_RDONLY | os.O_CLOEXEC)
+    try:
+        as_bytes = found.reshape(-1).view("u1")
+        _READ_ROWS(file, offset + size * begin, size * shape[1], *found.shape, size, as_bytes, failed)
+    finally:
+        os.close(file)
+    if failed[0] > 0:
+        raise OSError(int(failed[0]), os.strerror(int(failed[0])))
+    if failed[0]:
+        raise ValueError(f"it ends before byte {offset + size * shape[0] * shape[1]}")
+    return found
+
+
 def sums(stored: numpy.ndarray, zero: int, blank: Optional[int] = None) -> numpy.ndarray:
     """Whole numbers and `zero`, in 64 bits, without a sign where they reach beyond 2^63; those that are `blank` may
     become any number. Raises ValueError where 64 bits don't hold the others.
@@ -88,13 +123,15 @@ def _carried(stored: numpy.ndarray, zero: int) -> numpy.ndarray:
     return found
 
 
-def values(stored: numpy.ndarray, means: Meaning = Meaning(), less: int = 0) -> numpy.ndarray:
+def values(stored: numpy.ndarray, means: Meaning = Meaning(), less: int = 0, own: bool = False) -> numpy.ndarray:
     """The values less a whole number, as floating-point numbers row by row, NaN where they are undefined: in 32 bits
-    where these hold all of them, and else in 64. Whole numbers within 2^53 of `less` lose no digit.
+    where these hold all of them, and else in 64. Whole numbers within 2^53 of `less` lose no digit. With `own` the
+    stored numbers may become the values.
     """
     kind, size, shift = stored.dtype.kind, stored.dtype.itemsize, means.zero - less
     if kind == "f":
-        found = stored.astype("f4" if size <= 4 and means.scale == 1 and shift == 0 else "f8", order="C")
+        small = size <= 4 and means.scale == 1 and shift == 0
+        found = stored.astype("f4" if small else "f8", order="C", copy=not own)
     elif means.is_whole and (size == 8 or abs(shift) > EXACT_64 - 2**32):
         found, shift = _moved(stored, int(means.zero) - less), 0
     else:
