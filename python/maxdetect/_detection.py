@@ -214,10 +214,10 @@ def _found(
 ) -> _Found:
     """The sources of all tiles; the map has them."""
     gathered, plan = joining.Gathered(segments, progress), detector.plan
-    with _taking_turns(detector, executor):
+    with _taking_turns(detector, executor) as finders:
 
         def made(tiles: List[Tuple[Box, Box]]) -> Iterator[holding.Piece]:
-            return each(executor, _Tile(detector), tiles, meanwhile)
+            return each(finders, _Tile(detector), tiles, meanwhile)
 
         left = plan.looked_at(made, gathered.take)
         if left and detector.whole.pixels <= plan.largest:
@@ -225,7 +225,7 @@ def _found(
             detector.share_strips()
             gathered.take(detector(detector.whole, detector.whole))
         elif left:
-            for piece in each(executor, _Tile(detector, holding.cut_piece), left):
+            for piece in each(finders, _Tile(detector, holding.cut_piece), left):
                 gathered.take(piece)
     table, cut = gathered.rows(executor)
     return _Found(table, cut, gathered.count - len(table))
@@ -245,16 +245,17 @@ def _meta(detector: Detector, skies: "_Skies", found: _Found) -> Dict[str, Any]:
 
 @contextlib.contextmanager
 def _taking_turns(detector: Detector, executor: Optional[concurrent.futures.Executor]):
-    """Where two threads look at tiles, one is prepared while the program looks at another: both the program and Python
-    have one in hand at a time, so that memory has room for both.
+    """What looks at tiles. In the place of two threads there are three: programs look at two tiles while Python prepares
+    one or takes one up, which it does for one at a time, so that memory has room for all.
     """
     with contextlib.ExitStack() as stack:
         stack.callback(spare.give_back)
         if isinstance(executor, _TwoThreads):
-            for name in ("own_turn", "program_turn"):
+            for name, most in (("own_turn", 1), ("program_turn", 2)):
                 stack.callback(setattr, detector, name, contextlib.nullcontext())
-                setattr(detector, name, threading.Lock())
-        yield
+                setattr(detector, name, threading.BoundedSemaphore(most))
+            executor = stack.enter_context(concurrent.futures.ThreadPoolExecutor(3))
+        yield executor
 
 
 class _Skies(NamedTuple):

@@ -192,7 +192,8 @@ class Plane:
 
     def _stands_as_it_is(self, less: int) -> bool:
         """The file's numbers are its values less a whole number, and become those where they are read."""
-        return stored.reads_rows() and self._place[0] == ">f4" and self._meaning == stored.Meaning(zero=less)
+        floats = self._place is not None and self._place[0] == ">f4"
+        return floats and stored.reads_rows() and self._meaning == stored.Meaning(zero=less)
 
     def _numbers(self, rows, columns) -> numpy.ndarray:
         """The stored numbers of some rows and columns."""
