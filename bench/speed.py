@@ -4,7 +4,8 @@ image's memory, in one run; prints a table in Markdown.
 usage: /usr/bin/python3 bench/speed.py MAXDETECT MAXWIDE [--runs N] [--workers N] [--side SIDE] [--large [SIDE]] [--only-large]
                                                [--many N]
 
-MAXDETECT and MAXWIDE are the built programs; the package's loops in C are compiled first, where a compiler is. The
+MAXDETECT and MAXWIDE are the built programs; the package's loops in C are compiled first, where a compiler is, and
+Python keeps the package's bytecode, as where it is installed. The
 image is a star field of 4096 x 4096 floating-point numbers with 42,000 stars, of which some 33,000 are found. The
 script of SEP reads it, estimates the background, extracts with the same threshold and least area, measures isophotal
 and Kron fluxes with errors, a circle and half-light radii, and writes a catalogue in FITS. Source Extractor has that
@@ -227,7 +228,9 @@ def main():
     maxcat = [sys.executable, "-m", "maxdetect._cli"]
     with tempfile.TemporaryDirectory() as name:
         folder = pathlib.Path(name)
-        rows = Printed(folder, given.runs, {**os.environ, **programs, "PYTHONPATH": os.fspath(TOP / "python")})
+        environment = {**os.environ, **programs, "PYTHONPATH": os.fspath(TOP / "python")}
+        environment.pop("PYTHONDONTWRITEBYTECODE", None)
+        rows = Printed(folder, given.runs, environment)
         if not given.only_large:
             one_image(rows, folder, given, maxcat)
         if given.many:
