@@ -11,14 +11,12 @@ Kron radius is the mean distance of the light, and at least 3.5 standard deviati
 pixels. FLUX_TOTAL has besides what point sources of the same image have further out. Pixels of other sources count as
 sky in each aperture.
 """
-import dataclasses
-import functools
 from typing import Dict, Optional, Sequence, Tuple, Union
 
 import numpy
 import sep
 
-from . import _beside as beside, _shapes as shapes, _totals as totals
+from . import _beside as beside, _owned as owned, _shapes as shapes, _totals as totals
 from ._apertures import Apertures, Fluxes
 from ._beside import unit_of
 from ._docs import described
@@ -30,7 +28,6 @@ from ._pointlike import PointSources
 from ._rows import Rows
 from ._sky import grown
 from ._stamps import LEFT_OUT
-from ._windows import rows_and_columns
 
 __all__ = [
     "APERTURE",
@@ -56,38 +53,6 @@ KRON_REACH, KRON = 6.0, (2.5, 3.5)
 APERTURE = 10.0
 
 Numbers = Union[float, numpy.ndarray]
-
-
-@dataclasses.dataclass
-class _Pixels:
-    """The pixels that belong to sources: their places in the flat image, the sources' numbers there, how long a list by
-    number is, and how many columns the image has.
-    """
-
-    places: numpy.ndarray
-    numbers: numpy.ndarray
-    length: int
-    width: int
-
-    @functools.cached_property
-    def at(self) -> Tuple[numpy.ndarray, numpy.ndarray]:
-        """Their rows and columns."""
-        return rows_and_columns(self.places, self.width)
-
-    def summed(self, weights: numpy.ndarray) -> numpy.ndarray:
-        """The sum of the weights over each source, by number."""
-        return numpy.bincount(self.numbers, weights, self.length).astype("f8", copy=False)
-
-    def among(self, chosen: numpy.ndarray) -> "_Pixels":
-        """Those of an image's pixels that are chosen."""
-        here = chosen.ravel()[self.places]
-        return self if here.all() else _Pixels(self.places[here], self.numbers[here], self.length, self.width)
-
-    def having(self, chosen: numpy.ndarray) -> numpy.ndarray:
-        """Whether one of a source's pixels is chosen, by number."""
-        found = numpy.zeros(self.length, dtype=bool)
-        found[self.numbers[chosen]] = True
-        return found
 
 
 def _undefined(image: numpy.ndarray, mask: Optional[numpy.ndarray]) -> numpy.ndarray:
@@ -205,18 +170,6 @@ def _defined(image: numpy.ndarray, mask: Optional[numpy.ndarray], noise: Numbers
     return undefined, noise
 
 
-def _pixels_of(segments: numpy.ndarray, numbers: numpy.ndarray) -> _Pixels:
-    """The pixels of a map that belong to the sources with these numbers."""
-    places = numpy.flatnonzero(segments.ravel() > 0)
-    # numpy takes such numbers as places without a copy.
-    within = segments.ravel()[places].astype(numpy.intp)
-    length = int(max(within.max(initial=0), numbers.max(initial=0))) + 1
-    wanted = numpy.zeros(length, dtype=bool)
-    wanted[numbers] = True
-    own = wanted[within]
-    return _Pixels(places[own], within[own], length, segments.shape[1])
-
-
 def residual_of(image: numpy.ndarray, background: Numbers, undefined: numpy.ndarray) -> numpy.ndarray:
     """The image less its background in 32 bits, which hold it where they may not hold the values themselves; row by
     row, with 0 where it is undefined.
@@ -229,19 +182,11 @@ def residual_of(image: numpy.ndarray, background: Numbers, undefined: numpy.ndar
     return residual
 
 
-def _isophotal(
-    pixels: _Pixels, residual: numpy.ndarray, noise: Numbers, gain: Optional[float]
-) -> Tuple[numpy.ndarray, numpy.ndarray]:
-    """The sums over the sources' defined pixels and their errors, by number; NaN where there are none."""
-    flux = pixels.summed(residual.ravel()[pixels.places])
-    if numpy.ndim(noise) == 0:
-        variance = pixels.summed(numpy.full(len(pixels.places), float(noise) ** 2))
-    else:
-        variance = pixels.summed(numpy.asarray(noise).ravel()[pixels.places].astype("f8") ** 2)
-    if gain:
-        variance += numpy.maximum(flux, 0) / gain
-    seen = numpy.bincount(pixels.numbers, minlength=pixels.length) > 0
-    return numpy.where(seen, flux, numpy.nan), numpy.where(seen, numpy.sqrt(variance), numpy.nan)
+def _isophotal(sums: owned.Sums, gain: Optional[float]) -> totals.Fluxes:
+    """The light of the sources' defined pixels and its errors; NaN where there are none."""
+    variance = sums.variance + numpy.maximum(sums.light, 0) / gain if gain else sums.variance
+    seen = sums.pixels > 0
+    return numpy.where(seen, sums.light, numpy.nan), numpy.where(seen, numpy.sqrt(variance), numpy.nan)
 
 
 def _flags(pixels, image, undefined, catalogue, numbers, saturation, threshold) -> numpy.ndarray:
@@ -252,7 +197,7 @@ def _flags(pixels, image, undefined, catalogue, numbers, saturation, threshold) 
         xs | ys | (numpy.asarray(catalogue["XMAX"]) == width) | (numpy.asarray(catalogue["YMAX"]) == height)
     )
     if undefined.any():
-        flags |= UNDEFINED * pixels.having(grown(undefined, 1).ravel()[pixels.places])[numbers]
+        flags |= UNDEFINED * pixels.touching(grown(undefined, 1))[numbers]
     if saturation is not None:
         flags |= SATURATED * pixels.having(numpy.ma.getdata(image).ravel()[pixels.places] >= saturation)[numbers]
     if len(catalogue):
@@ -261,35 +206,21 @@ def _flags(pixels, image, undefined, catalogue, numbers, saturation, threshold) 
     return flags
 
 
-def _gathered(pixels: _Pixels, residual: numpy.ndarray, catalogue: Rows) -> numpy.ndarray:
+def _gathered(sums: owned.Sums, shape: owned.Shapes) -> numpy.ndarray:
     """By how much closer to the centre of its ellipse the light of a source lies than its pixels do: by root mean
-    squares, in the catalogue's order, and 1 where it doesn't.
+    squares, and 1 where it doesn't.
     """
-    numbers = numpy.asarray(catalogue["NUMBER"])
-    long, short, angle = ellipses(catalogue)
-    turned = numpy.radians(angle)
-
-    def here(values):
-        """The sources' values at their pixels."""
-        listed = numpy.ones(pixels.length)
-        listed[numbers] = values
-        return listed[pixels.numbers]
-
-    rows, columns = pixels.at
-    right = columns - here(numpy.asarray(catalogue["XCEN"]) / 1000 - 1)
-    down = rows - here(numpy.asarray(catalogue["YCEN"]) / 1000 - 1)
-    cosine, sine = here(numpy.cos(turned)), here(numpy.sin(turned))
-    along = (right * cosine + down * sine) / here(long)
-    across = (down * cosine - right * sine) / here(short)
-    light = numpy.maximum(residual.ravel()[pixels.places], 0).astype("f8")
-    along *= along
-    across *= across
-    along += across
     with numpy.errstate(invalid="ignore"):
-        mean = (pixels.summed(light * along) / pixels.summed(light))[numbers]
+        mean = sums.moment / sums.above
     # A pixel is a square of side 1, whose own variance is a twelfth. Of a full ellipse this is a half.
-    mean += (1 / long**2 + 1 / short**2) / 12
+    mean += (1 / shape.long**2 + 1 / shape.short**2) / 12
     return numpy.sqrt(numpy.where(numpy.isfinite(mean), numpy.minimum(2 * mean, 1), 1))
+
+
+def _shapes_of(catalogue: Rows) -> owned.Shapes:
+    """The centres of sources and their ellipses."""
+    x, y = (numpy.asarray(catalogue[name], dtype="f8") / 1000 - 1 for name in ("XCEN", "YCEN"))
+    return owned.Shapes(x, y, *ellipses(catalogue))
 
 
 def _diameters(
@@ -377,18 +308,20 @@ def measured(
     if numpy.shape(segments) != numpy.shape(image):
         raise ValueError(f"the map has the sides {numpy.shape(segments)}, the image {numpy.shape(image)}")
     undefined, noise = _defined(image, mask, noise)
-    segments, numbers = numpy.ascontiguousarray(segments, dtype="i4"), numpy.asarray(catalogue["NUMBER"], dtype="i4")
-    pixels = _pixels_of(segments, numbers)
+    numbers = numpy.asarray(catalogue["NUMBER"], dtype="i4")
+    pixels, segments = owned.of_map(segments, numbers)
     flags = _flags(pixels, image, undefined, catalogue, numbers, saturation, threshold)
     if struck is not None and struck.any():
-        flags |= STRUCK * pixels.having(grown(struck, 1).ravel()[pixels.places])[numbers]
-    scene, unit = _scene(image, background, noise, undefined, numpy.abs(segments), gain)
-    defined = pixels.among(~undefined)
-    flux, error = _isophotal(defined, scene.residual, scene.noise, scene.gain)
-    sums = _Sums(scene, catalogue, _gathered(defined, scene.residual, catalogue), kron)
+        flags |= STRUCK * pixels.touching(grown(struck, 1))[numbers]
+    scene, unit = _scene(image, background, noise, undefined, segments, gain)
+    defined = pixels.without(undefined)
+    shape = _shapes_of(catalogue)
+    own = defined.sums(scene.residual, scene.noise, numbers, shape)
+    flux, error = _isophotal(own, scene.gain)
+    sums = _Sums(scene, numbers, shape, _gathered(own, shape), kron)
     columns = sums.columns(apertures, points, (flags & SPLIT) != 0)
     table = Rows({"X": numpy.asarray(catalogue["XCEN"]) / 1000, "Y": numpy.asarray(catalogue["YCEN"]) / 1000})
-    table["FLUX_ISO"], table["FLUXERR_ISO"] = flux[numbers] * unit, error[numbers] * unit
+    table["FLUX_ISO"], table["FLUXERR_ISO"] = flux * unit, error * unit
     more = shapes.columns(scene, seen, defined, catalogue, columns["FLUX_RADIUS"], vignet)
     for name, values in [*columns.items(), *more.items()]:
         table[name] = _in_units(name, values, unit)
@@ -419,19 +352,23 @@ def _in_units(name: str, values: numpy.ndarray, unit: float) -> numpy.ndarray:
 
 
 class _Sums:
-    """The sums in apertures of sources, and what they tell. `gathered` says by how much closer the light of each lies
-    than its pixels do, and `kron` how far its Kron ellipse reaches.
+    """The sums in apertures of sources with these numbers and shapes, and what they tell. `gathered` says by how much
+    closer the light of each lies than its pixels do, and `kron` how far its Kron ellipse reaches.
     """
 
-    def __init__(self, scene: shapes.Scene, catalogue: Rows, gathered: numpy.ndarray, kron: Tuple[float, float]):
-        self._gain = scene.gain
-        x, y = (numpy.asarray(catalogue[name], dtype="f8") / 1000 - 1 for name in ("XCEN", "YCEN"))
+    def __init__(
+        self,
+        scene: shapes.Scene,
+        numbers: numpy.ndarray,
+        shape: owned.Shapes,
+        gathered: numpy.ndarray,
+        kron: Tuple[float, float],
+    ):
+        self._gain, self._shape = scene.gain, shape
         seen = (scene.residual, scene.noise, scene.undefined, scene.segments)
-        self._apertures = Apertures(*seen, numpy.asarray(catalogue["NUMBER"], dtype="i4"), x, y)
-        self._ellipses = ellipses(catalogue)
-        long, short, _ = self._ellipses
+        self._apertures = Apertures(*seen, numbers, shape.x, shape.y)
         # SEP takes standard deviations along the axes, which are half of the half axes, and radians.
-        self._axes = (long / 2 * gathered, short / 2 * gathered)
+        self._axes = (shape.long / 2 * gathered, shape.short / 2 * gathered)
         self._kron(kron)
 
     def _with_error(self, fluxes: Fluxes) -> totals.Fluxes:
@@ -441,7 +378,7 @@ class _Sums:
 
     def _kron(self, kron: Tuple[float, float]) -> None:
         """The Kron ellipses, and what is in them."""
-        angle = numpy.clip(numpy.radians(self._ellipses[2]), -numpy.pi / 2, numpy.pi / 2)
+        angle = numpy.clip(numpy.radians(self._shape.angle), -numpy.pi / 2, numpy.pi / 2)
         radius = self._apertures.kron_radius(*self._axes, angle, KRON_REACH)
         # Noise may leave no light to average over, or a mean that lies outside of where it was sought.
         radius = numpy.where(numpy.isfinite(radius) & (radius > 0), numpy.minimum(radius, KRON_REACH), 0)
@@ -460,7 +397,7 @@ class _Sums:
         self, diameters: Sequence[float], points: Optional[PointSources], split: numpy.ndarray
     ) -> Dict[str, numpy.ndarray]:
         """The columns that are measured in apertures; `split` says which sources were split from a neighbour."""
-        (long, short, angle), radii = self._ellipses, [diameter / 2 for diameter in diameters]
+        shape, radii = self._shape, [diameter / 2 for diameter in diameters]
         circles = self._circles([*radii, *totals.sizes(points)])
         in_circle = [numpy.stack(it, axis=-1) for it in zip(*(circles[radius] for radius in radii))]
         if len(diameters) == 1:
@@ -477,10 +414,10 @@ class _Sums:
             "KRON_RADIUS": self._long,
             "FLUX_APER": in_circle[0],
             "FLUXERR_APER": in_circle[1],
-            "A": long,
-            "B": short,
-            "ELONGATION": long / short,
-            "THETA": angle,
+            "A": shape.long,
+            "B": shape.short,
+            "ELONGATION": shape.long / shape.short,
+            "THETA": shape.angle,
             "FWHM": across[0],
             "FLUX_RADIUS": across[-1] / 2,
         }
