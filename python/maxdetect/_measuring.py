@@ -14,7 +14,6 @@ import numpy
 
 from . import (
     _beside as beside,
-    _joining as joining,
     _looks as looks,
     _maps as maps,
     photometry,
@@ -52,7 +51,7 @@ class _Row:
         image = self.detector.field.to_measure(rows, columns)
         undefined = ~numpy.isfinite(image)
         residual = photometry.residual_of(image, self.found.level(rows, columns), undefined)
-        return beside.of_row(residual, undefined, joining.without_gaps(part.pixels()), within, self.found.mesh)
+        return beside.of_row(residual, undefined, part.pixels(), within, self.found.mesh)
 
 
 def sky_of_values(detector: "Detector", executor: Executor = None) -> Optional[sky.Sky]:
