@@ -18,6 +18,7 @@ from . import (
     _maps as maps,
     photometry,
     _pointlike as pointlike,
+    _residuals as residuals,
     scaling,
     _shapes as shapes,
     _sky as sky,
@@ -49,8 +50,7 @@ class _Row:
         rows, seen, part = item
         columns, within = slice(0, self.found.shape[1]), slice(rows.start - seen.start, rows.stop - seen.start)
         image = self.detector.field.to_measure(rows, columns)
-        undefined = ~numpy.isfinite(image)
-        residual = photometry.residual_of(image, self.found.level(rows, columns), undefined)
+        residual, undefined = residuals.residual_and_undefined(image, self.found.level(rows, columns))
         return beside.of_row(residual, undefined, part.pixels(), within, self.found.mesh)
 
 

@@ -25,6 +25,7 @@ from ._estimates import of_array
 from ._flags import BEYOND, CROWDED, CUT, EDGE, FLAGS, SATURATED, SPLIT, STRUCK, UNDEFINED, WIDE
 from ._nddata import AnyImage, array_of, noise_of
 from ._pointlike import PointSources
+from ._residuals import residual_and_undefined, residual_of, undefined_in
 from ._rows import Rows
 from ._sky import grown
 from ._stamps import LEFT_OUT
@@ -53,15 +54,6 @@ KRON_REACH, KRON = 6.0, (2.5, 3.5)
 APERTURE = 10.0
 
 Numbers = Union[float, numpy.ndarray]
-
-
-def _undefined(image: numpy.ndarray, mask: Optional[numpy.ndarray]) -> numpy.ndarray:
-    """Which pixels have no value, row by row as SEP wants them."""
-    undefined = ~numpy.isfinite(numpy.ma.getdata(image))
-    for more in (numpy.ma.getmask(image), mask):
-        if more is not None and more is not numpy.ma.nomask:
-            undefined |= numpy.asarray(more, dtype=bool)
-    return numpy.ascontiguousarray(undefined)
 
 
 @described
@@ -108,7 +100,7 @@ def sky(
     if mesh < 0:
         raise ValueError(f"mesh is 0 or a number of pixels, not {mesh}")
     values = array_of(image, mask)
-    undefined = _undefined(values, mask)
+    undefined = undefined_in(values, mask)
     if undefined.all():
         unknown = numpy.full(undefined.shape, numpy.nan, dtype="f4")
         return unknown, unknown if local else numpy.nan
@@ -160,26 +152,14 @@ def _noise(noise: Numbers, shape: Tuple[int, ...]) -> Numbers:
     return numpy.ascontiguousarray(noise, dtype="f4")
 
 
-def _defined(image: numpy.ndarray, mask: Optional[numpy.ndarray], noise: Numbers) -> Tuple[numpy.ndarray, Numbers]:
-    """Which pixels have no value or no noise, and the noise, 0 where there is none."""
-    undefined, noise = _undefined(image, mask), _noise(noise, numpy.shape(image))
-    if numpy.ndim(noise):
-        unknown = ~numpy.isfinite(noise)
-        if unknown.any():
-            return undefined | unknown, numpy.where(unknown, 0, noise)
-    return undefined, noise
-
-
-def residual_of(image: numpy.ndarray, background: Numbers, undefined: numpy.ndarray) -> numpy.ndarray:
-    """The image less its background in 32 bits, which hold it where they may not hold the values themselves; row by
-    row, with 0 where it is undefined.
-    """
-    data = numpy.ma.getdata(image)
-    residual = (data - background if data.dtype.kind == "f" else data.astype("f8") - background).astype(
-        "f4", order="C", copy=False
+def _known(noise: Numbers, mask: Optional[numpy.ndarray]) -> Tuple[Numbers, Optional[numpy.ndarray]]:
+    """The noise, 0 where there is none, and a mask that has these pixels too; None for none."""
+    unknown = ~numpy.isfinite(noise) if numpy.ndim(noise) else numpy.zeros(1, dtype=bool)
+    if not unknown.any():
+        return noise, mask
+    return numpy.where(unknown, numpy.float32(0), noise), unknown if mask is None else unknown | numpy.asarray(
+        mask, dtype=bool
     )
-    numpy.copyto(residual, 0, where=undefined)
-    return residual
 
 
 def _isophotal(sums: owned.Sums, gain: Optional[float]) -> totals.Fluxes:
@@ -307,14 +287,14 @@ def measured(
         raise Mistake("the noise is wanted: the image has no uncertainty, and noise= is None")
     if numpy.shape(segments) != numpy.shape(image):
         raise ValueError(f"the map has the sides {numpy.shape(segments)}, the image {numpy.shape(image)}")
-    undefined, noise = _defined(image, mask, noise)
+    noise, mask = _known(_noise(noise, numpy.shape(image)), mask)
     numbers = numpy.asarray(catalogue["NUMBER"], dtype="i4")
     pixels, segments = owned.of_map(segments, numbers)
-    flags = _flags(pixels, image, undefined, catalogue, numbers, saturation, threshold)
+    scene, unit = _scene(image, background, noise, mask, segments, gain)
+    flags = _flags(pixels, image, scene.undefined, catalogue, numbers, saturation, threshold)
     if struck is not None and struck.any():
         flags |= STRUCK * pixels.touching(grown(struck, 1))[numbers]
-    scene, unit = _scene(image, background, noise, undefined, segments, gain)
-    defined = pixels.without(undefined)
+    defined = pixels.without(scene.undefined)
     shape = _shapes_of(catalogue)
     own = defined.sums(scene.residual, scene.noise, numbers, shape)
     flux, error = _isophotal(own, scene.gain)
@@ -333,13 +313,13 @@ def _scene(
     image: numpy.ndarray,
     background: Numbers,
     noise: Numbers,
-    undefined: numpy.ndarray,
+    mask: Optional[numpy.ndarray],
     segments: numpy.ndarray,
     gain: Optional[float],
 ) -> Tuple[shapes.Scene, float]:
     """What is measured, in units near the noise, and the unit: 32 bits don't hold the squares of all images."""
-    residual, unit = residual_of(image, background, undefined), unit_of(noise)
-    residual *= numpy.float32(1 / unit)
+    unit = unit_of(noise)
+    residual, undefined = residual_and_undefined(image, background, mask, 1 / unit)
     noise = noise / unit if isinstance(noise, float) else numpy.asarray(noise / numpy.float32(unit))
     return shapes.Scene(residual, noise, gain and gain * unit, undefined, segments), unit
 

@@ -2,7 +2,7 @@
 import numpy
 import pytest
 
-from maxdetect import _loops as loops, _owned as owned
+from maxdetect import _loops as loops, _owned as owned, _residuals as residuals
 
 pytestmark = pytest.mark.skipif(not loops.library(), reason="the loops aren't compiled")
 
@@ -134,3 +134,31 @@ def test_sources_in_a_mask(monkeypatch, shape):
             left = pixels.without(mask)
             assert left.places.tolist() == [at for at in pixels.places.tolist() if not mask.flat[at]]
             assert (segments.ravel()[left.places] == left.numbers).all()
+
+
+def images(rng, shape):
+    """Images with pixels of all kinds, in 32 bits, and others."""
+    yield from values(rng, shape)
+    noise = rng.normal(1000, 30, shape).astype("f4")
+    for share in (0.01, 0.5, 1):
+        yield numpy.where(rng.random(shape) < share, numpy.float32(numpy.nan), noise)
+    yield noise.astype("f8")
+    yield noise.astype(">f4")
+    yield noise.astype("i2")
+    yield numpy.ma.MaskedArray(noise, mask=noise > 1000)
+    yield numpy.repeat(noise, 2, axis=1)[:, ::2]
+
+
+@pytest.mark.parametrize("shape", [*SHAPES, (64, 65), (0, 5)])
+def test_residuals(monkeypatch, shape):
+    rng = numpy.random.default_rng(8)
+    level = rng.normal(1000, 30, shape).astype("f4")
+    broken = numpy.where(rng.random(shape) < 0.2, numpy.float32(numpy.nan), level)
+    for image in images(rng, shape):
+        for below in (level, broken, numpy.asfortranarray(level), level.astype("f8"), 7.0, numpy.nan):
+            for mask in (None, rng.random(shape) < 0.2):
+                for times in (1, 1 / 3, 2.0**-60, 1e30):
+                    one, other = both(monkeypatch, residuals.residual_and_undefined, image, below, mask, times)
+                    assert same(one, other)
+                    assert one[0].flags.c_contiguous and one[1].flags.c_contiguous
+                    assert not one[0][one[1]].any()
