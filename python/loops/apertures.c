@@ -12,19 +12,28 @@ struct sums {
     int16_t told;
 };
 
-/* Where the loops put what they find. */
+/* Where the loops put what they find: light, its error, what is told, and whether there are undefined pixels. */
 struct found {
-    double *flux, *error, *unseen, *area;
+    double *flux, *error;
     int16_t *told;
+    uint8_t *holed;
 };
+
+/* Undefined pixels, which have no light here, are taken for the mean of all others; NaN where there are no others. */
+static inline double times_all(struct sums sums)
+{
+    if (!(sums.unseen > 0))
+        return 1;
+    return sums.area > sums.unseen ? sums.area / (sums.area - sums.unseen) : NAN;
+}
 
 static inline void put(struct found found, int64_t at, struct sums sums)
 {
-    found.flux[at] = sums.flux;
-    found.error[at] = sqrt(sums.variance);
-    found.unseen[at] = sums.unseen;
-    found.area[at] = sums.area;
+    double times = times_all(sums);
+    found.flux[at] = sums.flux * times;
+    found.error[at] = sqrt(sums.variance) * sqrt(times);
     found.told[at] = sums.told;
+    found.holed[at] = sums.unseen > 0;
 }
 
 /* A row of pixels, and the source whose aperture crosses it. */
@@ -151,9 +160,9 @@ static inline struct sums in_circle(const struct field *field, int64_t source, c
 
 /* The light of each source in circles with these radii: of all of them in the first one, then in the next. */
 LOOP void circles(const struct field *field, int64_t count, const double *restrict radii, double *restrict flux,
-                  double *restrict error, double *restrict unseen, double *restrict area, int16_t *restrict told)
+                  double *restrict error, int16_t *restrict told, uint8_t *restrict holed)
 {
-    struct found found = {flux, error, unseen, area, told};
+    struct found found = {flux, error, told, holed};
     struct parts parts = parts_of_pixels();
     for (int64_t source = 0; source < field->sources; source++)
         for (int64_t which = 0; which < count; which++) {
@@ -194,9 +203,9 @@ static struct sums in_ellipse(const struct field *field, int64_t source, struct 
 /* The light of each source in an ellipse with these half axes, each times a radius, and the angle of the long one. */
 LOOP void ellipses(const struct field *field, const double *restrict long_axes, const double *restrict short_axes,
                    const double *restrict angles, const double *restrict radii, double *restrict flux,
-                   double *restrict error, double *restrict unseen, double *restrict area, int16_t *restrict told)
+                   double *restrict error, int16_t *restrict told, uint8_t *restrict holed)
 {
-    struct found found = {flux, error, unseen, area, told};
+    struct found found = {flux, error, told, holed};
     for (int64_t source = 0; source < field->sources; source++) {
         struct ellipse ellipse = ellipse_of(long_axes[source], short_axes[source], angles[source]);
         put(found, source, in_ellipse(field, source, ellipse, radii[source], CORNER / short_axes[source]));

@@ -38,7 +38,7 @@ class _Field(ctypes.Structure):
     ]
 
 
-_FIELD, _REALS, _FLUXES = ctypes.POINTER(_Field), array("f8"), (*[array("f8")] * 4, array("i2"))
+_FIELD, _REALS, _FLUXES = ctypes.POINTER(_Field), array("f8"), (array("f8"), array("f8"), array("i2"), array("?"))
 _CIRCLES = Loop("circles", _FIELD, whole, _REALS, *_FLUXES)
 _ELLIPSES = Loop("ellipses", _FIELD, _REALS, _REALS, _REALS, _REALS, *_FLUXES)
 _KRON = Loop("kron_radii", _FIELD, _REALS, _REALS, _REALS, number, _REALS)
@@ -148,9 +148,9 @@ class Apertures:
         """Numbers for the sources, one for each."""
         return tuple(numpy.array(numpy.broadcast_to(it, self._x.shape), "f8", order="C") for it in values)
 
-    def _room(self, *shape: int) -> Tuple[numpy.ndarray, ...]:
-        """Where a loop puts fluxes, errors, undefined and whole areas, and flags."""
-        return (*(numpy.empty(shape) for _ in range(4)), numpy.empty(shape, dtype="i2"))
+    def _room(self, *shape: int) -> Fluxes:
+        """Where a loop puts fluxes of this shape."""
+        return Fluxes(*(numpy.empty(shape, dtype) for dtype in ("f8", "f8", "i2", "?")))
 
     def _by_sep(self, sums: Callable, places: tuple, reach: numpy.ndarray, subpix: int) -> Fluxes:
         """`sums` is a function of SEP with what it wants behind the image, and no aperture reaches further than `reach`
@@ -169,7 +169,7 @@ class Apertures:
         if _CIRCLES and self._plain and min(radii, default=0) >= 0:
             found = self._room(len(radii), len(self._x))
             _CIRCLES(self._field, len(radii), numpy.array(radii, dtype="f8"), *found)
-            return [_filled(*one) for one in zip(*found)]
+            return [Fluxes(*one) for one in zip(*found)]
         sizes = (self._each(radius)[0] for radius in radii)
         return [self._by_sep(sep.sum_circle, (self._x, self._y, it), it, CIRCLE) for it in sizes]
 
@@ -183,7 +183,7 @@ class Apertures:
         if _ELLIPSES and self._plain and fit.all():
             found = self._room(len(self._x))
             _ELLIPSES(self._field, *shape, *found)
-            return _filled(*found)
+            return found
         return self._by_sep(sep.sum_ellipse, (self._x, self._y, *shape), radius * long, ELLIPSE)
 
     def kron_radius(self, long, short, angle, reach: float) -> numpy.ndarray:

@@ -179,15 +179,16 @@ class _Window:
         return levels + plane.origin, noises * how.threshold * self.seen.scale
 
 
-def _needed(table: Rows, reach: numpy.ndarray, shape: Tuple[int, int]) -> numpy.ndarray:
-    """For each source the box of the image that holds it with its neighbours, and all that is so near its centre: the
-    numbers of a `Box`, a line for each of them.
+def _needed(table: Rows, places: numpy.ndarray, reach: numpy.ndarray, shape: Tuple[int, int]) -> numpy.ndarray:
+    """For each source in these rows the box of the image that holds it with its neighbours, and all that is so near its
+    centre: the numbers of a `Box`, a line for each of them.
     """
     sides = []
     for name, side in zip("YX", shape):
-        centre = numpy.asarray(table[f"{name}CEN"]) / 1000 - 1
-        low = numpy.minimum(numpy.asarray(table[f"{name}MIN"]) - 2, numpy.floor(centre - reach))
-        high = numpy.maximum(numpy.asarray(table[f"{name}MAX"]) + 1, numpy.ceil(centre + reach) + 1)
+        centre, first, last = (numpy.asarray(table[f"{name}{it}"])[places] for it in ("CEN", "MIN", "MAX"))
+        centre = centre / 1000 - 1
+        low = numpy.minimum(first - 2, numpy.floor(centre - reach))
+        high = numpy.maximum(last + 1, numpy.ceil(centre + reach) + 1)
         sides += [numpy.clip(low, 0, side), numpy.clip(high, 0, side)]
     return numpy.array(sides).astype(int)
 
@@ -243,9 +244,9 @@ def measured(
             progress(0)
             maps.let_go(segments)
             wanted = numpy.maximum(answer["KRON_RADIUS"], windowed.reach(answer["FLUX_RADIUS"])) + 2
-            boxes = _needed(table[places], numpy.maximum(reach[places], wanted), shape)
+            boxes = _needed(table, places, numpy.maximum(reach[places], wanted), shape)
             held = _holds(box, boxes)
-            answers.append(answer[held])
+            answers.append(answer if held.all() else answer[held])
             where.append(places[held])
             windows += [
                 (Box(*boxes[:, number].tolist()), places[[number]]) for number in numpy.flatnonzero(~held).tolist()
