@@ -220,17 +220,3 @@ LOOP void owned(const int64_t *places, const int32_t *values, const int32_t *lab
     }
     *found = own;
 }
-
-/* One number for each pixel of chosen labels, by which they are sorted at once: its label, and the less the greater its
- * number is. How many they are is told. */
-LOOP void light_keys(const int32_t *values, const int32_t *labels, int64_t count, const uint8_t *chosen,
-                     int64_t sources, int64_t *keys, int64_t *found)
-{
-    int64_t own = 0;
-    for (int64_t pixel = 0; pixel < count; pixel++) {
-        const int32_t label = labels[pixel];
-        keys[own] = label * (INT64_C(1) << 32) + (INT32_MAX - (int64_t)values[pixel]);
-        own += label >= 0 && label < sources && chosen[label];
-    }
-    *found = own;
-}

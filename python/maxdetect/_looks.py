@@ -11,6 +11,7 @@ import numpy
 
 from . import _pointlike as pointlike, scaling, _sky as sky, _smoothing as smoothing
 from ._fields import Each, Field, noise_of
+from ._significance import Significance
 
 __all__ = ["Way", "electrons", "point_sources", "seen", "way"]
 
@@ -43,14 +44,12 @@ class Way:
     min_area: int
     electrons: Optional[float]
 
-    def significance(self, area: int, light: float, level: int) -> float:
+    @property
+    def significance(self) -> Significance:
         """How many deviations it is that so many pixels stand above a level by so much light in all, both in the
         program's numbers. Pixels closer together than the Gaussian reaches share their noise.
         """
-        if not area:
-            return 0.0
-        variance = 1.0 + max(level, 0) * self._own_noise
-        return light / scaling.SIGMA / math.sqrt(variance * area * min(area, self._together))
+        return Significance(float(scaling.SIGMA), self._own_noise, self._together)
 
     @property
     def patch(self) -> float:

@@ -7,25 +7,22 @@ The wider what they stand on is, the more peaks of noise it has, and the more de
 the root of twice the logarithm of their number. What is left are nodes of the same tree: each reaches down to where it
 meets the next one. So what is made of a component depends on its own pixels alone.
 """
-import array
-import bisect
 import math
-from typing import Callable, Dict, Iterator, List, NamedTuple, Tuple
+from typing import Iterator, List, NamedTuple, Tuple
 
 import numpy
 
-from . import _nodes as nodes
+from . import _groups as groups, _nodes as nodes
 from ._loops import Loop, array as row_by_row, whole
 from ._maps import bands, let_go
 from ._rows import Rows
+from ._significance import AnySignificance
 
-__all__ = ["Parts", "Significance", "sources"]
+__all__ = ["Parts", "sources"]
 
-# How many deviations of the noise so much light is that so many pixels have above a level: area, light, level.
-Significance = Callable[[int, float, int], float]
 # So many pixels are at work at a time.
 CACHED = 2**16
-LEAST, GREATEST = numpy.iinfo("i4").min, numpy.iinfo("i4").max
+LEAST = numpy.iinfo("i4").min
 # By how many rows and columns the neighbours behind a pixel lie further on.
 BEHIND = [(0, 1), (1, -1), (1, 0), (1, 1)]
 
@@ -52,8 +49,6 @@ _OWNED = Loop(
     *(row_by_row("?"), row_by_row("i4"), whole),
     *(row_by_row("i8"), row_by_row("i4"), row_by_row("i4"), row_by_row("?"), row_by_row("i8")),
 )
-# Which labels are chosen, and how many labels there are; and a number for each of their pixels, and how many these are.
-_KEYS = Loop("light_keys", *_LABELLED[1:-1], row_by_row("?"), whole, row_by_row("i8"), row_by_row("i8"))
 
 
 class _Pixels:
@@ -95,6 +90,11 @@ class _Pixels:
     def labelled(self) -> Tuple[numpy.ndarray, numpy.ndarray, numpy.ndarray, int, int]:
         """What loops are told of the pixels."""
         return self.places, self.values, self.labels, self.count, self.width
+
+    @property
+    def lit(self) -> groups.Lit:
+        """The pixels' numbers and labels."""
+        return groups.Lit(self.values[:-1], self.labels[:-1])
 
     @property
     def unlabelled(self) -> Tuple[numpy.ndarray, numpy.ndarray, int, int]:
@@ -236,106 +236,17 @@ def _share_out(pixels: _Pixels) -> None:
         rest = rest[given == 0]
 
 
-class _Meetings(NamedTuple):
-    """Which parts are neighbours, and the greatest number at which they meet: from the greatest down."""
-
-    ones: List[int]
-    others: List[int]
-    levels: List[int]
-
-
-def _meetings(pixels: _Pixels) -> _Meetings:
+def _meetings(pixels: _Pixels) -> groups.Meetings:
     """Where parts meet. Two pixels side by side meet at the lesser of their numbers."""
     one, other, level = numpy.concatenate([numpy.zeros((3, 0), dtype="i8"), *pixels.met()], axis=1)
     if not len(one):
-        return _Meetings([], [], [])
+        return groups.Meetings(one, other, level)
     pairs = one * (int(pixels.labels.max()) + 1) + other
     order = numpy.argsort(pairs, kind="stable")
     starts = numpy.flatnonzero(numpy.diff(pairs[order], prepend=-1))
     level, one, other = numpy.maximum.reduceat(level[order], starts), one[order[starts]], other[order[starts]]
     order = numpy.lexsort((other, one, -level))
-    return _Meetings(one[order].tolist(), other[order].tolist(), level[order].tolist())
-
-
-def _components(meetings: _Meetings, count: int) -> numpy.ndarray:
-    """For each part, by number, the least one of its component: parts that meet are of one."""
-    least = list(range(count + 1))
-
-    def of(part: int) -> int:
-        while least[part] != part:
-            least[part] = part = least[least[part]]
-        return part
-
-    for one, other in zip(meetings.ones, meetings.others):
-        one, other = of(one), of(other)
-        least[max(one, other)] = min(one, other)
-    return numpy.array([of(part) for part in range(count + 1)])
-
-
-def _keys(pixels: _Pixels, chosen: numpy.ndarray) -> numpy.ndarray:
-    """One number for each pixel of the chosen parts, so that they are sorted at once: its part, and the less the
-    greater its number is.
-    """
-    if not _KEYS:
-        inside = chosen[pixels.labels[:-1]]
-        labels, values = pixels.labels[:-1][inside], pixels.values[:-1][inside]
-        return (labels.astype("i8") << 32) + (GREATEST - values.astype("i8"))
-    keys, count = numpy.empty(pixels.count, dtype="i8"), numpy.empty(1, dtype="i8")
-    _KEYS(*pixels.labelled[1:-1], chosen, len(chosen), keys, count)
-    return keys[: count[0]]
-
-
-class _Light:
-    """How many pixels of some parts stand above a level, and how much light they have there."""
-
-    def __init__(self, pixels: _Pixels, parts: numpy.ndarray, count: int):
-        chosen = numpy.zeros(count + 1, dtype=bool)
-        chosen[parts] = True
-        keys = _keys(pixels, chosen)
-        keys.sort()
-        falling = (keys & (2**32 - 1)) - GREATEST
-        # As Python's own arrays, since parts are asked for one by one.
-        self.falling, self.sums = array.array("q", falling.tobytes()), array.array("q", bytes(8))
-        self.sums.frombytes((-numpy.cumsum(falling)).tobytes())
-        self.starts = numpy.searchsorted(keys >> 32, numpy.arange(count + 2)).tolist()
-
-    def above(self, part: int, level: int) -> Tuple[int, int]:
-        begin = self.starts[part]
-        end = bisect.bisect_left(self.falling, -level, begin, self.starts[part + 1])
-        return end - begin, self.sums[end] - self.sums[begin] - (end - begin) * level
-
-
-def _needed(area: int, least: float, patch: float) -> float:
-    """How many deviations a part stands above where it meets one with so many pixels there."""
-    return math.sqrt(least**2 + 2 * math.log(max(1.0, area / patch)))
-
-
-def _owners(
-    meetings: _Meetings, light: _Light, count: int, significance: Significance, least: float, patch: float
-) -> numpy.ndarray:
-    """For each part the number of the one to which it belongs in the end."""
-    owner = list(range(count + 1))
-    members = {part: [part] for part in owner}
-
-    def above(group: int, level: int) -> Tuple[int, int]:
-        area = flux = 0
-        for part in members[group]:
-            more = light.above(part, level)
-            area, flux = area + more[0], flux + more[1]
-        return area, flux
-
-    for one, other, level in zip(*meetings):
-        one, other = owner[one], owner[other]
-        if one == other:
-            continue
-        of_one, of_other = above(one, level), above(other, level)
-        needed = _needed(max(of_one[0], of_other[0]), least, patch)
-        if min(significance(*of_one, level), significance(*of_other, level)) < needed:
-            kept, gone = (one, other) if of_one[1] >= of_other[1] else (other, one)
-            for part in members.pop(gone):
-                owner[part] = kept
-                members[kept].append(part)
-    return numpy.array(owner)
+    return groups.Meetings(one[order], other[order], level[order])
 
 
 class Parts(NamedTuple):
@@ -356,7 +267,7 @@ def sources(
     catalogue: Rows,
     segments: numpy.ndarray,
     threshold: int,
-    significance: Significance,
+    significance: AnySignificance,
     least: float,
     patch: float = math.inf,
 ) -> Parts:
@@ -369,39 +280,28 @@ def sources(
     own = pixels.labels[:-1] != 0
     _share_out(pixels)
     meetings, owner = _meetings(pixels), numpy.arange(count + 1)
-    components = _components(meetings, count)
-    if least > 0 and meetings.ones:
-        light = _Light(pixels, numpy.array([meetings.ones, meetings.others]), count)
-        owner = _owners(meetings, light, count, significance, least, patch)
+    components = groups.components(meetings, count)
+    if least > 0 and meetings.ones.size:
+        owner = groups.owners(meetings, pixels.lit, count, significance, least, patch)
     places, values, owners, shown = pixels.owned(owner.astype("i4"), own)
     parts = Parts(catalogue, places, owners, shown, components)
     if (owner == numpy.arange(count + 1)).all():
         return parts
     several = numpy.flatnonzero(numpy.bincount(owner[1:], minlength=count + 1) > 1)
-    bases = _levels(meetings, owner)
+    bases = groups.levels(meetings, owner)[several]
     return _with_changed(parts, owner, *_changed(numbers, values, parts, several, bases))
 
 
-def _levels(meetings: _Meetings, owner: numpy.ndarray) -> Dict[int, int]:
-    """For each part that meets another one in the end the greatest number at which it does."""
-    level: Dict[int, int] = {}
-    for one, other, at in zip(*meetings):
-        one, other = int(owner[one]), int(owner[other])
-        if one != other:
-            level[one], level[other] = max(at, level.get(one, at)), max(at, level.get(other, at))
-    return level
-
-
 def _changed(
-    numbers: numpy.ndarray, values: numpy.ndarray, parts: Parts, several: numpy.ndarray, level: Dict[int, int]
+    numbers: numpy.ndarray, values: numpy.ndarray, parts: Parts, several: numpy.ndarray, bases: numpy.ndarray
 ) -> Tuple[Rows, numpy.ndarray]:
     """The rows of the nodes that several parts make together, and which pixels of a window's components these have."""
     place = numpy.full(len(parts.components), -1)
     place[several] = numpy.arange(len(several))
     at = numpy.flatnonzero(place[parts.owners] >= 0)
     pixels, order = nodes.of_places(parts.places[at], values[at], place[parts.owners[at]], len(several), numbers.shape)
-    bases = [level.get(int(part)) for part in several]
-    rows, inside = nodes.rows(several, pixels, nodes.bases_of(numbers, pixels, bases))
+    told = [None if base == groups.NONE else base for base in bases.tolist()]
+    rows, inside = nodes.rows(several, pixels, nodes.bases_of(numbers, pixels, told))
     within = numpy.zeros(len(parts.places), dtype=bool)
     within[at[order]] = inside
     return rows, within

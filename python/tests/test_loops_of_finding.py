@@ -189,7 +189,7 @@ def test_pixels_of_the_threshold_set(both, shape, seed):
             found += [its.uphill(some), its.highest(some), its.uphill(some[:0]), its.highest(some[:0])]
             pieces._share_out(its)
             met = numpy.concatenate([numpy.zeros((3, 0), dtype="i8"), *its.met()], axis=1)
-            return [*found, its.labels, met[:, numpy.lexsort(met)], *map(numpy.array, pieces._meetings(its))]
+            return [*found, its.labels, met[:, numpy.lexsort(met)], *pieces._meetings(its)]
 
         for one, other in zip(*both(made)):
             assert same(one, other)
@@ -208,7 +208,7 @@ def test_touching_pixels_some_at_a_time(both, monkeypatch):
     found = [*both(pieces._meetings, its)]
     monkeypatch.setattr(pieces, "CACHED", 50)
     found += both(pieces._meetings, its)
-    assert len(found[0].ones) > 900 and all(it == found[0] for it in found)
+    assert len(found[0].ones) > 900 and all(same(*them) for it in found for them in zip(it, found[0]))
 
 
 def rows_of(catalogue):

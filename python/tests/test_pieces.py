@@ -5,7 +5,7 @@ import numpy
 import pytest
 from scipy import ndimage
 
-from maxdetect import _kernel as kernel, _pieces as pieces
+from maxdetect import _groups as groups, _kernel as kernel, _pieces as pieces
 
 ALL = numpy.ones((3, 3))
 THRESHOLD = 40
@@ -206,9 +206,9 @@ def test_an_image_that_is_one_component():
 
 
 def test_more_is_needed_on_wide_parts():
-    assert pieces._needed(15, 1.0, 15.0) == pieces._needed(1, 1.0, 15.0) == 1.0
-    assert pieces._needed(1500, 1.0, 15.0) == pytest.approx(math.sqrt(1 + 2 * math.log(100)))
-    assert pieces._needed(10**9, 2.0, math.inf) == 2.0
+    assert groups.needed(15, 1.0, 15.0) == groups.needed(1, 1.0, 15.0) == 1.0
+    assert groups.needed(1500, 1.0, 15.0) == pytest.approx(math.sqrt(1 + 2 * math.log(100)))
+    assert groups.needed(10**9, 2.0, math.inf) == 2.0
 
 
 def test_a_wide_source_keeps_its_peaks_of_noise():
