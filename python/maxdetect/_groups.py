@@ -20,11 +20,11 @@ GREATEST, NONE = numpy.iinfo("i4").max, numpy.iinfo("i4").min
 _MEETINGS = *[row_by_row("i8")] * 3, whole
 # How many parts and 0 for none there are, and the least part of each one's component.
 _COMPONENTS = Loop("components", *_MEETINGS, whole, row_by_row("i8"))
-# Numbers and parts of pixels, and how many they are; a deviation, a level's own noise, and how many pixels share it;
+# Numbers and parts of pixels, and how many they are; each part's component; a deviation, a level's own noise, and how many pixels share it;
 # the square of the deviations that are wanted, and the patch; room for pixels and for parts; and the owners.
 _OWNERS = Loop(
     "owners_of_parts",
-    *(row_by_row("i4"), row_by_row("i4"), whole, *_MEETINGS, whole),
+    *(row_by_row("i4"), row_by_row("i4"), whole, *_MEETINGS, row_by_row("i8"), whole),
     *(real, real, real, real, real),
     *(row_by_row("u8"), row_by_row("i8"), row_by_row("i8")),
 )
@@ -108,9 +108,10 @@ def owners(
     if not _OWNERS or not isinstance(significance, Significance):
         return _owners(meetings, pixels, count, significance, least, patch)
     found, size = numpy.empty(count + 1, dtype="i8"), len(pixels.values)
-    room = numpy.empty((2, size), dtype="u8"), numpy.empty((2, count + 1), dtype="i8")
+    room = numpy.empty((2, size), dtype="u8"), numpy.empty((4, count + 1), dtype="i8")
     noise = significance.deviation, significance.own_noise, significance.together
-    _OWNERS(*pixels, size, *meetings.told, count + 1, *noise, float(least) ** 2, patch, *room, found)
+    parts = components(meetings, count), count + 1
+    _OWNERS(*pixels, size, *meetings.told, *parts, *noise, float(least) ** 2, patch, *room, found)
     return found
 
 
