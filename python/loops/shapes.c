@@ -1,22 +1,10 @@
 /* What is told of sources by their own pixels, which are given by their places in a flat image and their sources'
  * numbers: where the greatest values stand, and how well centres are known. */
 #include "loops.h"
+#include "places.h"
 
 #include <float.h>
 #include <math.h>
-
-/* The rows and columns of places that mostly follow each other: the row's number and its first place. */
-struct row {
-    int64_t number, first, width;
-};
-
-static inline void go_to(struct row *row, int64_t place)
-{
-    if (place >= row->first && place - row->first < row->width)
-        return;
-    row->number = place / row->width;
-    row->first = row->number * row->width;
-}
 
 /* The greatest value of each source, NaN where one of its values is or it has no pixel, and the first place where it
  * stands, or `none`. */
@@ -57,7 +45,7 @@ LOOP void centre_sums(const float *image, const int64_t *places, const int64_t *
                       const double *centres, int64_t length, int32_t has_gain, double gain, int32_t each, double even,
                       const float *noise, double *sums)
 {
-    struct row row = {0, 0, width};
+    struct line line = {0, 0, width};
     double *right = sums, *down = sums + length, *both = sums + 2 * length;
     for (int64_t pixel = 0; pixel < count; pixel++) {
         const int64_t number = numbers[pixel], place = places[pixel];
@@ -67,9 +55,9 @@ LOOP void centre_sums(const float *image, const int64_t *places, const int64_t *
             const float square = each ? noise[place] * noise[place] : 0;
             variance += own_variance(image[place], gain, each ? square : even);
         }
-        go_to(&row, place);
-        const double y = (double)row.number - centres[number];
-        const double x = (double)(place - row.first) - centres[length + number];
+        go_to(&line, place);
+        const double y = (double)line.number - centres[number];
+        const double x = (double)(place - line.first) - centres[length + number];
         right[number] += variance * (x * x);
         down[number] += variance * (y * y);
         both[number] += variance * (x * y);
