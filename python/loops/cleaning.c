@@ -1,5 +1,6 @@
 /* Which pixels lie beside all sources, and which ones of a source stand out above the light that these have. */
 #include "loops.h"
+#include "places.h"
 #include "stored.h"
 
 #include <math.h>
@@ -14,6 +15,33 @@ LOOP void beside(const uint32_t *numbers, int64_t count, int64_t threshold, uint
         const int32_t number = number_of(numbers[place]);
         mask[place] = !mask[place] & (number <= most) & (number != INT32_MIN);
     }
+}
+
+/* Paints pixels, or those alone that are shown, in a mask of so many, the first of which has this place. */
+LOOP void paint(const int64_t *places, const uint8_t *shown, int64_t count, int32_t shown_alone, int64_t first,
+                uint8_t *restrict mask, int64_t size)
+{
+    const uint8_t others = !shown_alone;
+    for (int64_t pixel = 0; pixel < count; pixel++) {
+        const int64_t place = places[pixel] - first;
+        if (place >= 0 && place < size)
+            mask[place] = shown[pixel] | others;
+    }
+}
+
+/* The rows and columns of the pixels that are shown, in a window of some width, and how many they are. */
+LOOP void shown_pixels(const int64_t *places, const uint8_t *shown, int64_t count, int64_t width,
+                       int64_t *restrict rows, int64_t *restrict columns, int64_t *found)
+{
+    struct line line = {0, 0, width};
+    int64_t own = 0;
+    for (int64_t pixel = 0; pixel < count; pixel++) {
+        go_to(&line, places[pixel]);
+        rows[own] = line.number;
+        columns[own] = places[pixel] - line.first;
+        own += shown[pixel] != 0;
+    }
+    *found = own;
 }
 
 /* The mean of so many pixels with these sums, where they are at least so many, but not below 0; and else 0. */

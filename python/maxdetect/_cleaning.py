@@ -8,12 +8,12 @@ Beside sources lie the pixels below the threshold, but for those next to a compo
 component that lie away from all of its sources. So what is made of a component depends on its own pixels and on those
 near it alone.
 """
-from typing import Callable, Iterator, NamedTuple, Tuple, Union
+from typing import Callable, Iterator, List, NamedTuple, Tuple, Union
 
 import numpy
 
 from . import _boxes as boxes
-from ._loops import Loop, array, number as real, whole
+from ._loops import Loop, array, flag, number as real, whole
 from ._pieces import Parts
 from ._sky import grown
 from ._windows import rows_and_columns
@@ -32,6 +32,11 @@ ROWS = 256
 
 # Numbers, how many they are, the threshold, and whether they lie near components: instead whether they lie beside all.
 _BESIDE = Loop("beside", array(">i4"), whole, whole, array("?"))
+# Places of some pixels, which of them are shown, how many they are, whether these alone count, and the first place; and a
+# mask, and its size.
+_PAINT = Loop("paint", array("i8"), array("?"), whole, flag, whole, array("?"), whole)
+# The same pixels, and the window's width; and rows and columns of those that are shown, and how many these are.
+_SHOWN = Loop("shown_pixels", array("i8"), array("?"), whole, whole, array("i8"), array("i8"), array("i8"))
 # Some pixels' counts and sums, how many pixels these are, the least count that tells, and the light.
 _MEAN = Loop("mean_light", array("i8"), array("i8"), whole, real, array("f8"))
 # The numbers of a window, and how many they are; the pixels of its parts, their owners, which are shown, and how many
@@ -66,13 +71,21 @@ def _around(
     numbers: numpy.ndarray, beside: numpy.ndarray, half: int, rows: numpy.ndarray, columns: numpy.ndarray
 ) -> _Around:
     """What lies around the pixels of these rows, in order, and columns: in boxes that end where the image does."""
-    found = [_Around(numpy.zeros(0, dtype="i8"), numpy.zeros(0, dtype="i8"))]
+    found = []
     for top in range(rows[0], rows[-1] + 1, ROWS) if len(rows) else ():
         some = slice(*numpy.searchsorted(rows, (top, top + ROWS)))
         seen = slice(max(0, top - half), top + ROWS + half)
         own = rows[some] - seen.start, columns[some]
         found.append(_Around(*boxes.around(numbers[seen], beside[seen], half, *own)))
-    return _Around(*(numpy.concatenate(them) for them in zip(*found)))
+    return _joined(found)
+
+
+def _joined(found: List[_Around]) -> _Around:
+    """What lies around pixels that were looked at some at a time."""
+    if len(found) == 1:
+        return found[0]
+    none = numpy.zeros(0, dtype="i8")
+    return _Around(*(numpy.concatenate(them) for them in zip(_Around(none, none), *found)))
 
 
 class _Bands:
@@ -102,7 +115,11 @@ class _Bands:
         wide = self.rows(rows, reach)
         some = slice(*numpy.searchsorted(self.parts.places, (wide.start * self.width, wide.stop * self.width)))
         painted = numpy.zeros((wide.stop - wide.start, self.width), dtype=bool)
-        painted.ravel()[self.parts.places[some] - wide.start * self.width] = self.parts.shown[some] if shown else True
+        places, own, first = self.parts.places[some], self.parts.shown[some], wide.start * self.width
+        if _PAINT:
+            _PAINT(places, own, len(places), shown, first, painted, painted.size)
+        else:
+            painted.ravel()[places - first] = own if shown else True
         return grown(painted, reach)[rows.start - wide.start : rows.stop - wide.start]
 
     def beside(self, rows: slice, values: numpy.ndarray, threshold: int) -> numpy.ndarray:
@@ -118,13 +135,22 @@ class _Bands:
 
     def around(self, half: int, threshold: int) -> _Around:
         """What lies around the pixels of the sources' nodes, beside all components."""
-        shown, found = self.parts.shown, [_Around(numpy.zeros(0, dtype="i8"), numpy.zeros(0, dtype="i8"))]
+        found = []
         for own, some in self:
             rows = self.rows(own, half)
             values = self.values(rows)
-            at, columns = rows_and_columns(self.parts.places[some][shown[some]], self.width)
+            at, columns = self.shown(some)
             found.append(_around(values, self.beside(rows, values, threshold), half, at - rows.start, columns))
-        return _Around(*(numpy.concatenate(them) for them in zip(*found)))
+        return _joined(found)
+
+    def shown(self, some: slice) -> Tuple[numpy.ndarray, numpy.ndarray]:
+        """Rows and columns of those of the parts' pixels that sources' nodes have."""
+        places, shown = self.parts.places[some], self.parts.shown[some]
+        if not _SHOWN:
+            return rows_and_columns(places[shown], self.width)
+        rows, columns, count = (numpy.empty(size, dtype="i8") for size in (len(places), len(places), 1))
+        _SHOWN(places, shown, len(places), self.width, rows, columns, count)
+        return rows[: count[0]], columns[: count[0]]
 
     def away(self) -> numpy.ndarray:
         """Which of the parts' pixels lie away from all sources."""
@@ -142,7 +168,7 @@ def _halos(bands: _Bands, half: int, least: float) -> Iterator[Tuple[numpy.ndarr
     parts, away = bands.parts, bands.away()
     owner = parts.components[parts.owners]
     many = numpy.flatnonzero(numpy.bincount(owner[away], minlength=1) >= least)
-    node = numpy.cumsum(parts.shown) - 1
+    node = numpy.cumsum(parts.shown) - 1 if many.size else numpy.zeros(0, dtype="i8")
     for number in many.tolist():
         own = numpy.flatnonzero(owner == number)
         rows, columns = rows_and_columns(parts.places[own], bands.width)

@@ -20,8 +20,9 @@ GREATEST, NONE = numpy.iinfo("i4").max, numpy.iinfo("i4").min
 _MEETINGS = *[row_by_row("i8")] * 3, whole
 # How many parts and 0 for none there are, and the least part of each one's component.
 _COMPONENTS = Loop("components", *_MEETINGS, whole, row_by_row("i8"))
-# Numbers and parts of pixels, and how many they are; each part's component; a deviation, a level's own noise, and how many pixels share it;
-# the square of the deviations that are wanted, and the patch; room for pixels and for parts; and the owners.
+# Numbers and parts of pixels, and how many they are; each part's component; a deviation, a level's own noise, and how
+# many pixels share it; the square of the deviations that are wanted, and the patch; room for pixels and for parts; and
+# the owners.
 _OWNERS = Loop(
     "owners_of_parts",
     *(row_by_row("i4"), row_by_row("i4"), whole, *_MEETINGS, row_by_row("i8"), whole),

@@ -256,6 +256,22 @@ def test_pixels_beside_components(both, threshold):
     assert same(*both(made))
 
 
+@pytest.mark.parametrize("width", [1, 61])
+@pytest.mark.parametrize("part", [0, 0.1, 1])
+def test_pixels_near_those_of_sources(both, width, part):
+    rng = numpy.random.default_rng(5)
+    numbers, none = numpy.zeros((60, width), dtype="i4"), numpy.zeros(0, dtype="i4")
+    places = numpy.flatnonzero(rng.random(numbers.shape) < part)
+    parts = pieces.Parts(None, places, none, rng.random(len(places)) < 0.5, none)
+
+    def made():
+        bands = cleaning._Bands(numbers, parts)
+        near = [bands.near(slice(20, 31), reach, shown) for reach in (1, 2, 40) for shown in (True, False)]
+        return [*near, *bands.shown(slice(0, len(places))), *bands.shown(slice(len(places) // 3, len(places) // 2))]
+
+    assert all(same(*them) for them in zip(*both(made)))
+
+
 # ---- all of it
 
 
