@@ -32,8 +32,8 @@ ROWS = 256
 
 # Numbers, how many they are, the threshold, and whether they lie near components: instead whether they lie beside all.
 _BESIDE = Loop("beside", array(">i4"), whole, whole, array("?"))
-# Places of some pixels, which of them are shown, how many they are, whether these alone count, and the first place; and a
-# mask, and its size.
+# Places of some pixels, which of them are shown, how many they are, whether these alone count, and the first place; and
+# a mask, and its size.
 _PAINT = Loop("paint", array("i8"), array("?"), whole, flag, whole, array("?"), whole)
 # The same pixels, and the window's width; and rows and columns of those that are shown, and how many these are.
 _SHOWN = Loop("shown_pixels", array("i8"), array("?"), whole, whole, array("i8"), array("i8"), array("i8"))
