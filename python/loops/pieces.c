@@ -133,39 +133,79 @@ static inline void find_neighbours(const struct pixels *it, const struct rows *r
     found[7] = above[0];
 }
 
-/* For each of some pixels, in order, the first of its neighbours with the greatest number, if that is greater than its
- * own, and else itself. There is room for three rows, each with two columns more. */
-LOOP void uphill(const int64_t *places, const int32_t *values, int64_t count, int64_t width, const int64_t *some,
-                 int64_t how_many, int64_t *room, int64_t *way)
+/* The first of a pixel's neighbours with the greatest number, if that is greater than its own, and else itself. */
+static inline int64_t uphill(const struct pixels *it, struct rows *rows, int64_t pixel)
 {
-    const struct pixels it = {places, values, 0, count, width};
-    struct rows rows = no_rows(&it, room);
-    for (int64_t place = 0; place < how_many; place++) {
-        int64_t beside[8], best = some[place];
-        go_on(&it, &rows, best);
-        find_neighbours(&it, &rows, best, beside);
-        for (int at = 0; at < 8; at++)
-            best = values[beside[at]] > values[best] ? beside[at] : best;
-        way[place] = best;
+    int64_t beside[8], best = pixel;
+    go_on(it, rows, pixel);
+    find_neighbours(it, rows, pixel, beside);
+    for (int at = 0; at < 8; at++)
+        best = it->values[beside[at]] > it->values[best] ? beside[at] : best;
+    return best;
+}
+
+/* The label of the first of a pixel's neighbours with the greatest number among those with a label and a number above
+ * the least one, and else 0. */
+static inline int32_t highest_beside(const struct pixels *it, struct rows *rows, int64_t pixel)
+{
+    int64_t beside[8], best = it->count;
+    go_on(it, rows, pixel);
+    find_neighbours(it, rows, pixel, beside);
+    for (int at = 0; at < 8; at++)
+        if (it->labels[beside[at]] && it->values[beside[at]] > it->values[best])
+            best = beside[at];
+    return it->labels[best];
+}
+
+/* Gives each pixel without a label that of the one where the way uphill ends: at one with a label, or at a peak, which
+ * may have none. */
+static void share_by_ways(const struct pixels *it, int64_t *room, int64_t *way, int32_t *labels)
+{
+    struct rows rows = no_rows(it, room);
+    for (int64_t pixel = 0; pixel < it->count; pixel++)
+        way[pixel] = labels[pixel] ? pixel : uphill(it, &rows, pixel);
+    for (int64_t pixel = 0; pixel < it->count; pixel++) {
+        int64_t top = pixel;
+        while (way[top] != top)
+            top = way[top] = way[way[top]];
+        way[pixel] = top;
+        labels[pixel] = labels[top];
     }
 }
 
-/* For each of some pixels, in order, the label of the first of its neighbours with the greatest number among those with
- * a label and a number above the least one, and else 0. There is room for three rows, each with two columns more. */
-LOOP void highest_beside(const int64_t *places, const int32_t *values, const int32_t *labels, int64_t count,
-                         int64_t width, const int64_t *some, int64_t how_many, int64_t *room, int32_t *given)
+/* Gives pixels without a label, as long as one of them gets one, those of their highest neighbours: all at once. There
+ * is room for all pixels and their labels. */
+static void share_by_neighbours(const struct pixels *it, int64_t *room, int64_t *rest, int32_t *given, int32_t *labels)
+{
+    int64_t left = 0;
+    int32_t any = 1;
+    for (int64_t pixel = 0; pixel < it->count; pixel++)
+        if (!labels[pixel])
+            rest[left++] = pixel;
+    while (left && any) {
+        struct rows rows = no_rows(it, room);
+        int64_t still = 0;
+        any = 0;
+        for (int64_t at = 0; at < left; at++)
+            any |= given[at] = highest_beside(it, &rows, rest[at]);
+        for (int64_t at = 0; at < left; at++) {
+            labels[rest[at]] = given[at];
+            if (!given[at])
+                rest[still++] = rest[at];
+        }
+        left = still;
+    }
+}
+
+/* Gives pixels without a label that of the one to which the way uphill leads, and what a peak without one holds that of
+ * the neighbour that stands highest. There is room for three rows, each with two columns more, and twice for all pixels.
+ */
+LOOP void share_out(const int64_t *places, const int32_t *values, int32_t *labels, int64_t count, int64_t width,
+                    int64_t *room, int64_t *way, int32_t *given)
 {
     const struct pixels it = {places, values, labels, count, width};
-    struct rows rows = no_rows(&it, room);
-    for (int64_t place = 0; place < how_many; place++) {
-        int64_t beside[8], best = count;
-        go_on(&it, &rows, some[place]);
-        find_neighbours(&it, &rows, some[place], beside);
-        for (int at = 0; at < 8; at++)
-            if (labels[beside[at]] && values[beside[at]] > values[best])
-                best = beside[at];
-        given[place] = labels[best];
-    }
+    share_by_ways(&it, room, way, labels);
+    share_by_neighbours(&it, room, way, given, labels);
 }
 
 /* Where pixels touch: the labels of both, the lesser first, and the lesser of their numbers. */

@@ -33,12 +33,10 @@ _THRESHOLD_SET = Loop(
     *(row_by_row(">i4"), row_by_row(">i4"), whole, whole, whole),
     *(row_by_row("i8"), row_by_row("i4"), row_by_row("i4"), row_by_row("i8")),
 )
-# Places and values of a threshold set, with labels or without, how many they are, and the window's width.
-_UNLABELLED = row_by_row("i8"), row_by_row("i4"), whole, whole
+# Places, values and labels of a threshold set, how many they are, and the window's width.
 _LABELLED = row_by_row("i8"), row_by_row("i4"), row_by_row("i4"), whole, whole
-# Some pixels, how many they are, room for rows, and what they get.
-_UPHILL = Loop("uphill", *_UNLABELLED, row_by_row("i8"), whole, row_by_row("i8"), row_by_row("i8"))
-_HIGHEST = Loop("highest_beside", *_LABELLED, row_by_row("i8"), whole, row_by_row("i8"), row_by_row("i4"))
+# Room for rows, and for places and labels of all pixels.
+_SHARE_OUT = Loop("share_out", *_LABELLED, row_by_row("i8"), row_by_row("i8"), row_by_row("i4"))
 # From which pixel up to which, and room for rows; and labels and levels of the pairs, and how many these are.
 _TOUCHING = Loop("touching", *_LABELLED, whole, whole, *[row_by_row("i8")] * 5)
 # Which pixels are shown, the labels' owners, and how many these are; and places, values, owners and what is shown of
@@ -97,21 +95,12 @@ class _Pixels:
         return groups.Lit(self.values[:-1], self.labels[:-1])
 
     @property
-    def unlabelled(self) -> Tuple[numpy.ndarray, numpy.ndarray, int, int]:
-        """What loops are told of the pixels that need no labels."""
-        return self.places, self.values, self.count, self.width
-
-    @property
-    def _room(self) -> numpy.ndarray:
+    def room(self) -> numpy.ndarray:
         """Room for a row, the one above and the one below, with a column more at both ends."""
         return numpy.empty((3, self.width + 2), dtype="i8")
 
     def uphill(self, some: numpy.ndarray) -> numpy.ndarray:
-        """For some pixels, in order, the highest of the neighbours that stand higher, or the pixel itself."""
-        if _UPHILL:
-            way = numpy.empty(len(some), dtype="i8")
-            _UPHILL(*self.unlabelled, some, len(some), self._room, way)
-            return way
+        """For some pixels the highest of the neighbours that stand higher, or the pixel itself."""
         return numpy.concatenate([some[:0], *map(self._uphill, _chunks(some))])
 
     def _uphill(self, some: numpy.ndarray) -> numpy.ndarray:
@@ -122,11 +111,7 @@ class _Pixels:
         return up
 
     def highest(self, some: numpy.ndarray) -> numpy.ndarray:
-        """For some pixels, in order, the source of the neighbour that stands highest among those with one."""
-        if _HIGHEST:
-            given = numpy.empty(len(some), dtype="i4")
-            _HIGHEST(*self.labelled, some, len(some), self._room, given)
-            return given
+        """For some pixels the source of the neighbour that stands highest among those with one."""
         return numpy.concatenate([self.labels[:0], *map(self._highest, _chunks(some))])
 
     def _highest(self, some: numpy.ndarray) -> numpy.ndarray:
@@ -167,7 +152,7 @@ class _Pixels:
         """The same of some pixels, from one on, with those behind them."""
         end, count = min(first + CACHED, self.count), numpy.empty(1, dtype="i8")
         found = [numpy.empty(len(BEHIND) * (end - first), dtype="i8") for _ in range(3)]
-        _TOUCHING(*self.labelled, first, end, self._room, *found, count)
+        _TOUCHING(*self.labelled, first, end, self.room, *found, count)
         return numpy.array([them[: count[0]] for them in found])
 
     def touching(self) -> Iterator[Tuple[numpy.ndarray, numpy.ndarray]]:
@@ -217,6 +202,10 @@ def _share_out(pixels: _Pixels) -> None:
     """Gives each pixel of the threshold set that no source has to the one to which the way uphill leads, and what a
     peak without a source holds to the neighbour that stands highest.
     """
+    if _SHARE_OUT:
+        room = pixels.room, numpy.empty(pixels.count, dtype="i8"), numpy.empty(pixels.count, dtype="i4")
+        _SHARE_OUT(*pixels.labelled, *room)
+        return
     labels = pixels.labels
     rest = numpy.flatnonzero(labels[:-1] == 0)
     way = numpy.arange(pixels.count)

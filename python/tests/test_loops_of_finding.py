@@ -185,8 +185,6 @@ def test_pixels_of_the_threshold_set(both, shape, seed):
         def made():
             its = pieces._Pixels(numbers, labels, threshold)
             found = [its.places, its.values, its.labels.copy(), numpy.array(its.count)]
-            some = numpy.flatnonzero(its.labels[:-1] == 0)
-            found += [its.uphill(some), its.highest(some), its.uphill(some[:0]), its.highest(some[:0])]
             pieces._share_out(its)
             met = numpy.concatenate([numpy.zeros((3, 0), dtype="i8"), *its.met()], axis=1)
             return [*found, its.labels, met[:, numpy.lexsort(met)], *pieces._meetings(its)]
@@ -195,11 +193,20 @@ def test_pixels_of_the_threshold_set(both, shape, seed):
             assert same(one, other)
 
 
-def test_pixels_that_are_asked_for_out_of_order(both):
-    numbers = hilly((67, 83), 2)
-    its = pieces._Pixels(numbers, numpy.random.default_rng(3).integers(0, 4, numbers.shape, dtype="i4"), -40)
-    some = numpy.random.default_rng(4).permutation(its.count)
-    assert same(*both(its.uphill, some)) and same(*both(its.highest, some))
+@pytest.mark.parametrize("sources", [0, 1, 60])
+def test_few_sources_share_all_pixels(both, sources):
+    """Some are asked for far from each other, and some are given to a source behind others that were."""
+    numbers, labels = hilly((167, 83), 2), numpy.zeros((167, 83), dtype="i4")
+    labels.ravel()[numpy.random.default_rng(3).choice(labels.size, sources)] = numpy.arange(1, sources + 1)
+    for threshold in (-(2**31), -10, 60):
+
+        def made():
+            its = pieces._Pixels(numbers, labels, threshold)
+            pieces._share_out(its)
+            return its.labels
+
+        one, other = both(made)
+        assert same(one, other) and (one != 0).any() <= (sources != 0)
 
 
 def test_touching_pixels_some_at_a_time(both, monkeypatch):
