@@ -9,6 +9,8 @@ from typing import Iterable, List, Optional, Tuple, Union
 import numpy
 import sep
 
+from ._loops import Loop, array, whole
+
 __all__ = ["FEWEST", "PointSources", "growth", "of", "told"]
 
 # How many deviations of the noise a pixel of a source that is looked at has, how many such pixels there are, how
@@ -20,6 +22,18 @@ ALIKE = 0.15
 # half-light radii later ones have. No other source lies within the first of them, less than `NEAR`.
 RADII = numpy.concatenate([numpy.arange(0.5, 8, 0.25), numpy.arange(8, 31, 2.0)])
 FIRST, REACH, NEAR = 8.0, 6.0, 4.0
+# How many radii are less.
+SMALL = int(numpy.searchsorted(RADII, NEAR))
+
+# An image, its map of sources, what is undefined, height and width; the sources' count, places and numbers; the radii,
+# and how many of them are small; the light, and which sources don't stand alone.
+_WITHIN = Loop(
+    "light_within",
+    *(array("f4"), array("i4"), array("?"), whole, whole),
+    *(whole, array("f8"), array("f8"), array("i4")),
+    *(whole, array("f8"), whole),
+    *(array("f8"), array("?")),
+)
 
 
 @dataclasses.dataclass(frozen=True)
@@ -61,10 +75,41 @@ def _growth(image: numpy.ndarray, undefined: numpy.ndarray, limit: float) -> num
     numbers = numpy.flatnonzero(inside)
     numbers = numbers[numpy.argsort(-sources["flux"][numbers], kind="stable")][:MOST]
     x, y, _ = sep.winpos(image, sources["x"][numbers], sources["y"][numbers], numpy.full(len(numbers), 1.0))
+    if _WITHIN and image.dtype == "f4":
+        return _by_loop(image, segments, undefined, numbers, x, y)
+    return _by_sep(image, segments, undefined, sources[numbers], numbers, x, y)
+
+
+def _by_loop(
+    image: numpy.ndarray,
+    segments: numpy.ndarray,
+    undefined: numpy.ndarray,
+    numbers: numpy.ndarray,
+    x: numpy.ndarray,
+    y: numpy.ndarray,
+) -> numpy.ndarray:
+    """The light of the sources with these numbers, from 0 on, and places: as by SEP, to the last digit."""
+    light, crowded = numpy.empty((len(numbers), len(RADII))), numpy.empty(len(numbers), dtype=bool)
+    images = map(numpy.ascontiguousarray, (image, segments, undefined))
+    own = (numbers + 1).astype("i4")
+    _WITHIN(*images, *image.shape, len(own), x, y, own, len(RADII), RADII, SMALL, light, crowded)
+    return light[~crowded]
+
+
+def _by_sep(
+    image: numpy.ndarray,
+    segments: numpy.ndarray,
+    undefined: numpy.ndarray,
+    sources: numpy.ndarray,
+    numbers: numpy.ndarray,
+    x: numpy.ndarray,
+    y: numpy.ndarray,
+) -> numpy.ndarray:
+    """The same by SEP, which tells of the sources too."""
     # SEP takes two thirds of the time where it need not look at the map of sources for each pixel of each circle.
     others, light = undefined | (segments != 0), []
-    for number, at in zip(numbers.tolist(), zip(x.tolist(), y.tolist())):
-        left, right, top, bottom = (int(sources[name][number]) for name in ("xmin", "xmax", "ymin", "ymax"))
+    for source, number, at in zip(sources, numbers.tolist(), zip(x.tolist(), y.tolist())):
+        left, right, top, bottom = (int(source[name]) for name in ("xmin", "xmax", "ymin", "ymax"))
         box = slice(top, bottom + 1), slice(left, right + 1)
         seen = others[box].copy()
         others[box] &= undefined[box] | (segments[box] != number + 1)
@@ -78,8 +123,7 @@ def _circles(image: numpy.ndarray, others: numpy.ndarray, x: float, y: float) ->
     nothing.
     """
     light: List[numpy.ndarray] = []
-    small = int(numpy.searchsorted(RADII, NEAR))
-    for radii in (RADII[:small], RADII[small:]):
+    for radii in (RADII[:SMALL], RADII[SMALL:]):
         places = (numpy.full(len(radii), place) for place in (x, y))
         flux, _, told = sep.sum_circle(image, *places, radii, subpix=0, mask=others)
         if not light and (told & sep.APER_HASMASKED).any():
