@@ -5,7 +5,7 @@ import sep
 from conftest import add_star
 from scipy import ndimage
 
-from maxdetect import _pointlike as pointlike
+from maxdetect import _loops as loops, _pointlike as pointlike
 
 UNLIMITED = numpy.inf
 
@@ -124,6 +124,44 @@ def test_pixels_of_others_are_left_out_as_by_the_map_of_sources():
     alone = {"seg_id": (numbers + 1).astype("i4"), "segmap": segments, "mask": undefined}
     light = numpy.array([sep.sum_circle(image, x, y, radius, subpix=0, **alone)[0] for radius in pointlike.RADII]).T
     assert {it.tobytes() for it in found} <= {it.tobytes() for it in light}
+
+
+@pytest.mark.skipif(not loops.library(), reason="the loops aren't compiled")
+@pytest.mark.parametrize("share", [0, 2e-4, 0.01, 1])
+def test_the_loop_sums_as_sep_does(monkeypatch, share):
+    rng = numpy.random.default_rng(10)
+    for image in (with_stars(3.0, count=150, side=500, seed=8), noise(99), 30 * noise(200)):
+        undefined = rng.random(image.shape) < share
+        image = numpy.where(undefined, 0, image).astype("f4")
+        found = pointlike._growth(image, undefined, 2000.0)
+        with monkeypatch.context() as patch:
+            patch.setattr(loops, "library", lambda: None)
+            other = pointlike._growth(image, undefined, 2000.0)
+        assert found.shape == other.shape and found.tobytes() == other.tobytes()
+
+
+@pytest.mark.skipif(not loops.library(), reason="the loops aren't compiled")
+@pytest.mark.parametrize("seed", range(4))
+def test_circles_anywhere_in_an_image(monkeypatch, seed):
+    rng = numpy.random.default_rng(seed)
+    image = (rng.normal(0, 1, (70, 90)) * 10.0 ** rng.integers(-6, 7, (70, 90))).astype("f4")
+    undefined, segments = rng.random(image.shape) < 1e-3, numpy.zeros(image.shape, dtype="i4")
+    segments[20:24, 30:33], segments[21:23, 33:50], segments[66:, :9] = 1, 2, 3
+    sources = numpy.zeros(3, dtype=[(name, "i8") for name in ("xmin", "xmax", "ymin", "ymax")])
+    sources["xmin"], sources["xmax"] = (30, 33, 0), (32, 49, 8)
+    sources["ymin"], sources["ymax"] = (20, 21, 66), (23, 22, 69)
+    for _ in range(60):
+        x, y = rng.uniform(-5, 95, 3), rng.uniform(-5, 75, 3)
+        if rng.random() < 0.5:
+            # At the corners, the sides and the centres of pixels, and where there is no place.
+            x, y = numpy.round(2 * x) / 2, numpy.round(y * 4) / 4
+            x[2] = rng.choice([numpy.nan, numpy.inf, -3e9, 1e300, x[2]])
+        numbers, holes = numpy.arange(3), undefined if rng.random() < 0.5 else numpy.zeros_like(undefined)
+        for radii in (pointlike.RADII, rng.uniform(0.01, 12, len(pointlike.RADII))):
+            monkeypatch.setattr(pointlike, "RADII", radii)
+            one = pointlike._by_loop(image, segments, holes, numbers, x, y)
+            other = pointlike._by_sep(image, segments, holes, sources, numbers, x, y)
+            assert one.shape == other.shape and numpy.array_equal(one, other, equal_nan=True)
 
 
 def test_the_value_around_which_most_lie():
