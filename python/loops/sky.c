@@ -31,28 +31,50 @@ static inline void row_at(const struct grid *grid, int64_t y, double *restrict f
     found[columns + 1] = 2 * found[columns] - found[columns - 1];
 }
 
-/* A number that goes on by parts of a step: the pixels of a row between two centres, or what they have above it. */
-static inline void go_on(float first, float step, const float *restrict part, int64_t count, int32_t less,
-                         float *restrict pixels)
+/* What is made of a level with a number added: itself; or of a pixel less that number and then less the level; or less
+ * both together, times a factor, or a factor over the pixel's noise. */
+enum { LEVEL, LEFT, SCALED, OVER_NOISE };
+
+struct making {
+    int32_t kind;
+    const float *pixels, *noises;
+    float added, times;
+    float *made;
+};
+
+/* That of some pixels of a row from this one on, between two centres: the level goes on by parts of a step. */
+static inline void go_on(const struct making *making, float first, float step, const float *restrict part, int64_t at,
+                         int64_t count)
 {
-    if (less)
+    const float *restrict pixels = making->pixels + at, *restrict noises = making->noises + at;
+    const float added = making->added, times = making->times;
+    float *restrict made = making->made + at;
+    if (making->kind == LEVEL)
         for (int64_t x = 0; x < count; x++)
-            pixels[x] -= step * part[x] + first;
+            made[x] = step * part[x] + first + added;
+    else if (making->kind == LEFT)
+        for (int64_t x = 0; x < count; x++)
+            made[x] = pixels[x] - added - (step * part[x] + first);
+    else if (making->kind == SCALED)
+        for (int64_t x = 0; x < count; x++)
+            made[x] = (pixels[x] - (step * part[x] + first + added)) * times;
     else
         for (int64_t x = 0; x < count; x++)
-            pixels[x] = step * part[x] + first;
+            made[x] = (pixels[x] - (step * part[x] + first + added)) * (times / noises[x]);
 }
 
-/* The numbers at the pixels of a window whose columns lie within the grid, or the pixels less these. Between two
- * centres a row changes by the same step from pixel to pixel; the first piece ends at the first centre. There is room
- * for a row of the grid and two more. */
+/* What is made of the levels at the pixels of a window whose columns lie within the grid. Between two centres a row
+ * changes by the same step from pixel to pixel; the first piece ends at the first centre. There is room for a row of the
+ * grid and two more. */
 VECTORS LOOP void between_centres(const double *numbers, int64_t rows, int64_t columns, int64_t mesh, const float *part,
-                                  int64_t top, int64_t left, int64_t height, int64_t width, int32_t less, double *room,
-                                  float *pixels)
+                                  int64_t top, int64_t left, int64_t height, int64_t width, int32_t kind,
+                                  const float *pixels, const float *noises, double added, double times, double *room,
+                                  float *made)
 {
     if (rows < 1 || columns < 2 || mesh < 1 || left < 0 || width > columns * mesh - left)
         return;
     const struct grid grid = {numbers, rows, columns, mesh};
+    const struct making making = {kind, pixels, noises, (float)added, (float)times, made};
     for (int64_t y = 0; y < height; y++) {
         row_at(&grid, top + y, room);
         int64_t piece = (left + mesh - mesh / 2) / mesh, begin = piece * mesh + mesh / 2 - mesh - left;
@@ -60,7 +82,7 @@ VECTORS LOOP void between_centres(const double *numbers, int64_t rows, int64_t c
             int64_t from = begin > 0 ? begin : 0, end = begin + mesh < width ? begin + mesh : width;
             /* A zero has no sign, nor has one to which it is added. */
             float first = (float)room[piece] + 0.0f, step = (float)(room[piece + 1] - room[piece]);
-            go_on(first, step, part + (from - begin), end - from, less, pixels + y * width + from);
+            go_on(&making, first, step, part + (from - begin), y * width + from, end - from);
         }
     }
 }

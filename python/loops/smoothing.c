@@ -17,6 +17,7 @@ enum { ROWS = 64, COLUMNS = 256, LANES = 16 };
 struct smoothing {
     const float *image;
     int64_t height, width, reach;
+    int64_t top, left, rows, columns; /* the window of it that is smoothed */
     const double *weights, *squares;
     const float *down, *across;
     float *made;
@@ -143,10 +144,11 @@ static int64_t next_undefined(const struct tile *it, int64_t row, int64_t column
 /* Smooths a row of a tile, all of whose rows within reach are read. */
 static void smooth_row(const struct tile *it, int64_t row)
 {
-    const int64_t reach = it->of->reach, last = reach + it->columns;
-    float *made = it->of->made + (it->top + row) * it->of->width + (it->left + reach);
-    sum_down(it, it->values, it->of->weights, row, 0, it->wide);
-    sum_along(it, it->of->weights, reach, last, made);
+    const struct smoothing *of = it->of;
+    const int64_t reach = of->reach, last = reach + it->columns;
+    float *made = of->made + (it->top + row - of->top) * of->columns + (it->left + reach - of->left);
+    sum_down(it, it->values, of->weights, row, 0, it->wide);
+    sum_along(it, of->weights, reach, last, made);
     int64_t next = next_undefined(it, row, 0);
     for (int64_t column = reach; column < last;) {
         const int64_t first = lesser(greater(column, next - reach), last);
@@ -176,17 +178,19 @@ static void smooth(struct tile *it)
     }
 }
 
-/* An image smoothed by these weights. `room` is for twice the rows with the reach on both sides, and one more, of the
- * columns with the reach on both sides and LANES more; `line` and `last` are for one. */
-LOOP void smoothed(const float *image, int64_t height, int64_t width, const double *weights, const double *squares,
-                   int64_t reach, const float *down, const float *across, float *room, double *line, int32_t *last,
-                   float *made)
+/* A window of an image smoothed by these weights, which has rows and columns as the image has them. `room` is for twice
+ * the rows with the reach on both sides, and one more, of the columns with the reach on both sides and LANES more;
+ * `line` and `last` are for one. */
+LOOP void smoothed(const float *image, int64_t height, int64_t width, int64_t top, int64_t left, int64_t rows,
+                   int64_t columns, const double *weights, const double *squares, int64_t reach, const float *down,
+                   const float *across, float *room, double *line, int32_t *last, float *made)
 {
-    const struct smoothing of = {image, height, width, reach, weights, squares, down, across, made};
-    for (int64_t top = 0; top < height; top += ROWS)
-        for (int64_t left = 0; left < width; left += COLUMNS) {
-            struct tile it = {.of = &of, .top = top - reach, .left = left - reach, .latest = -1};
-            it.rows = lesser(ROWS, height - top), it.columns = lesser(COLUMNS, width - left);
+    const struct smoothing of = {image, height, width, reach, top, left, rows, columns, weights, squares,
+                                 down,  across, made};
+    for (int64_t row = 0; row < rows; row += ROWS)
+        for (int64_t column = 0; column < columns; column += COLUMNS) {
+            struct tile it = {.of = &of, .top = top + row - reach, .left = left + column - reach, .latest = -1};
+            it.rows = lesser(ROWS, rows - row), it.columns = lesser(COLUMNS, columns - column);
             it.begin = greater(0, -it.left), it.end = lesser(it.columns + 2 * reach, width - it.left);
             it.wide = (it.columns + 2 * reach + LANES - 1) / LANES * LANES;
             it.values = room, it.defined = room + (it.rows + 2 * reach) * it.wide;

@@ -94,13 +94,12 @@ def seen(field: Field, found: sky.Sky, smooth: float, rows: slice, columns: slic
         begin = max(0, first - more)
         wide.append(slice(begin, min(side, last + more)))
         inner.append(slice(first - begin, last - begin))
-    level = found.background(*wide)
-    level += found.zero
-    image = scaling.deviations(field.image(*wide), level, noise_of(field, found, *wide))
+    pixels, noise = field.image(*wide), noise_of(field, found, *wide)
+    above = found.above(pixels, noise, *wide)
+    image = scaling.deviations(pixels, found.short_level(*wide), noise) if above is None else above
     if smooth:
-        image = smoothing.smoothed(image, smooth)
-    else:
-        image[~numpy.isfinite(image)] = numpy.nan
+        return smoothing.smoothed(image, smooth, (inner[0], inner[1]))
+    image[~numpy.isfinite(image)] = numpy.nan
     return numpy.ascontiguousarray(image[tuple(inner)])
 
 

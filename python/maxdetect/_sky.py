@@ -6,12 +6,12 @@ mean over 3 by 3 pixels lies three deviations of such means off, and those five 
 neither comes in steps on images of whole numbers, and a crowd of stars hardly moves them.
 """
 import dataclasses
-from typing import Any, Callable, Iterator, List, Optional, Tuple
+from typing import Any, Callable, Iterator, List, Optional, Tuple, Union
 
 import numpy
 
 from ._cells import CLIP, box_sums, cells_along, in_cells, of_row
-from ._loops import Loop, array, flag, whole
+from ._loops import Loop, array, flag, number, whole
 from ._masks import grown
 from ._ranks import PARTS, at_ranks
 
@@ -54,7 +54,17 @@ class Undefined(ValueError):
 
 Reader = Callable[[slice], numpy.ndarray]
 
-_BETWEEN = Loop("between_centres", array("f8"), *[whole] * 3, array("f4"), *[whole] * 4, flag, array("f8"), array("f4"))
+# A grid, its sides and the mesh; the parts of the way between centres; a window; what is made of its levels, of which
+# pixels and noises, with which number and factor; room, and where it is put.
+_BETWEEN = Loop(
+    "between_centres",
+    *(array("f8"), *[whole] * 3, array("f4"), *[whole] * 4),
+    *(flag, array("f4"), array("f4"), number, number),
+    *(array("f8"), array("f4")),
+)
+# What the loop makes: the level with a number added; pixels less that number and then less the level; pixels less both
+# together, times a factor, or a factor over their noise.
+_LEVEL, _LEFT, _SCALED, _OVER_NOISE = range(4)
 
 
 def _carried_on_along(grid: numpy.ndarray, axis: int) -> numpy.ndarray:
@@ -147,9 +157,7 @@ def between(grid: numpy.ndarray, mesh: int, rows: slice, columns: slice) -> nump
     if grid.size == 1:
         return numpy.full(shape, grid[0, 0], dtype="f4")
     if _by_loop(grid):
-        made = numpy.empty(shape, dtype="f4")
-        _go_on(grid, mesh, rows.start, columns.start, made, less=False)
-        return made
+        return _go_on(grid, mesh, rows, columns, _LEVEL)
     down = _along(grid, mesh, rows, "f8")
     if down.shape[1] == 1:
         return numpy.repeat(down.astype("f4"), shape[1], axis=1)
@@ -177,20 +185,41 @@ def _by_loop(grid: numpy.ndarray) -> bool:
     return bool(_BETWEEN) and grid.size > 0 and grid.shape[1] > 1
 
 
-def _go_on(grid: numpy.ndarray, mesh: int, top: int, left: int, pixels: numpy.ndarray, less: bool) -> None:
-    """The loop: what `between` tells for a window that begins there, or what its pixels are above that."""
-    room = numpy.empty(grid.shape[1] + 2)
+def _go_on(
+    grid: numpy.ndarray,
+    mesh: int,
+    rows: slice,
+    columns: slice,
+    kind: int,
+    pixels: Optional[numpy.ndarray] = None,
+    noises: Optional[numpy.ndarray] = None,
+    added: float = 0.0,
+    times: float = 1.0,
+) -> numpy.ndarray:
+    """The loop: what `between` tells for a window whose columns lie within the grid, or what it makes of that."""
+    made, room = _room(rows, columns), numpy.empty(grid.shape[1] + 2)
     grid = numpy.ascontiguousarray(grid, dtype="f8")
-    _BETWEEN(grid, *grid.shape, mesh, _parts(mesh), top, left, *pixels.shape, less, room, pixels)
+    images = (made if it is None else numpy.ascontiguousarray(it) for it in (pixels, noises))
+    place = rows.start, columns.start
+    _BETWEEN(grid, *grid.shape, mesh, _parts(mesh), *place, *made.shape, kind, *images, added, times, room, made)
+    return made
 
 
-def take_off(pixels: numpy.ndarray, grid: numpy.ndarray, mesh: int, rows: slice) -> numpy.ndarray:
-    """The pixels of some whole rows, as 32-bit floating-point numbers, less what `between` tells there."""
-    if _by_loop(grid) and pixels.flags.c_contiguous:
-        _go_on(grid, mesh, rows.start, 0, pixels, less=True)
-    else:
-        pixels -= between(grid, mesh, rows, slice(0, pixels.shape[1]))
-    return pixels
+def _room(rows: slice, columns: slice) -> numpy.ndarray:
+    """Room for 32-bit floating-point numbers at the pixels of a window."""
+    return numpy.empty((rows.stop - rows.start, columns.stop - columns.start), dtype="f4")
+
+
+def take_off(pixels: numpy.ndarray, zero: float, grid: numpy.ndarray, mesh: int, rows: slice) -> numpy.ndarray:
+    """The pixels of some whole rows less a number, and less what `between` tells there: 32-bit floating-point numbers
+    of their own.
+    """
+    columns = slice(0, pixels.shape[1])
+    if _by_loop(grid) and pixels.dtype == "f4":
+        return _go_on(grid, mesh, rows, columns, _LEFT, pixels, added=zero)
+    left = (pixels - zero).astype("f4", copy=False)
+    left -= between(grid, mesh, rows, columns)
+    return left
 
 
 # ---- the first guess: medians of samples
@@ -299,10 +328,39 @@ class Sky:
 
     def level(self, rows: slice, columns: slice) -> numpy.ndarray:
         """The level in the image's units there, in 64 bits where 32 don't hold it beside the noise."""
-        above = self.background(rows, columns)
-        found = above if abs(self.zero) < 4096 * self.noise else above.astype("f8")
+        if abs(self.zero) < 4096 * self.noise:
+            return self.short_level(rows, columns)
+        found = self.background(rows, columns).astype("f8")
         found += self.zero
         return found
+
+    def short_level(self, rows: slice, columns: slice) -> numpy.ndarray:
+        """The level in the image's units there, as 32-bit floating-point numbers."""
+        if self._by_loop(columns):
+            return _go_on(self.levels, self.mesh, rows, columns, _LEVEL, added=self.zero)
+        found = self.background(rows, columns)
+        found += self.zero
+        return found
+
+    def _by_loop(self, columns: slice) -> bool:
+        """Whether a loop knows the level at a window with these columns."""
+        return _by_loop(self.levels) and columns.start >= 0 and columns.stop <= self.levels.shape[1] * self.mesh
+
+    def above(
+        self, image: numpy.ndarray, noise: Union[float, numpy.ndarray], rows: slice, columns: slice
+    ) -> Optional[numpy.ndarray]:
+        """What an image stands above the level in a window, in parts of its noise there, as `scaling.deviations` tells
+        it of the short level; None where no loop does.
+        """
+        if not self._by_loop(columns) or image.dtype != "f4":
+            return None
+        if numpy.ndim(noise) == 0:
+            with numpy.errstate(divide="ignore"):
+                times = float((1 / numpy.asarray(noise)).astype("f4"))
+            return _go_on(self.levels, self.mesh, rows, columns, _SCALED, image, added=self.zero, times=times)
+        if numpy.asarray(noise).dtype != "f4":
+            return None
+        return _go_on(self.levels, self.mesh, rows, columns, _OVER_NOISE, image, noise, added=self.zero)
 
     def noises(self, rows: slice, columns: slice) -> numpy.ndarray:
         """The noise at the pixels of a window, by its cells."""
@@ -416,8 +474,7 @@ class _SecondLook(_Look):
         found = []
         for row in numbers:
             rows = self.rows(row)
-            residual = (self.read(rows) - self.zero).astype("f4", copy=False)
-            residual = take_off(residual, self.guess, self.mesh, rows)
+            residual = take_off(self.read(rows), self.zero, self.guess, self.mesh, rows)
             relative = None if self.relative is None else self.relative(rows)
             found.append(_second_row(residual, relative, self.deviation[row], self.quanta[row], self.mesh))
         return found

@@ -1,6 +1,7 @@
 """Smoothing by a Gaussian, the same in every window of an image, and the noise that is left behind it."""
+import functools
 import math
-from typing import Callable, Iterable
+from typing import Callable, Iterable, Tuple
 
 import numpy
 
@@ -21,11 +22,16 @@ CACHED = 2**16
 FEW = 0.1
 # For so many rows and columns the loop has to have room, besides those within reach.
 ROOM = 64, 256 + 16
-# An image, its height and width; the weights and their squares, and how far they reach; the roots of the summed squares
-# by row and by column; room to work in; and what is smoothed.
+# How many sides are remembered with what weights come to there.
+SIDES = 64
+# All rows, or all columns.
+EVERY = slice(0, None)
+# An image, its height and width; a window's first row and column, height and width; the weights and their squares, and
+# how far they reach; the roots of the summed squares by row and by column; room to work in; and what is smoothed.
 _LOOP = Loop(
     "smoothed",
     *(array("f4"), whole, whole),
+    *[whole] * 4,
     *(array("f8"), array("f8"), whole),
     *(array("f4"), array("f4")),
     *(array("f4"), array("f8"), array("i4")),
@@ -43,21 +49,40 @@ def correlated(width: float) -> float:
     return max(1.0, 4 * math.pi * (width / WIDTH) ** 2)
 
 
-def smoothed(image: numpy.ndarray, width: float) -> numpy.ndarray:
-    """An image smoothed by a Gaussian of this full width at half of its height, as 32-bit floating-point numbers.
+def _weights(width: float) -> numpy.ndarray:
+    """The weights of a pixel and its neighbours on both sides, along one axis."""
+    reach = margin(width)
+    return numpy.exp(-0.5 * (numpy.arange(-reach, reach + 1) * WIDTH / width) ** 2)
+
+
+@functools.lru_cache(maxsize=SIDES)
+def _root(side: int, width: float) -> numpy.ndarray:
+    """The root of the summed squares of the weights that count at each place along a side."""
+    return numpy.sqrt(_along(numpy.ones((1, side)), _weights(width) ** 2)[0]).astype("f4")
+
+
+def smoothed(image: numpy.ndarray, width: float, inner: Tuple[slice, slice] = (EVERY, EVERY)) -> numpy.ndarray:
+    """A window of an image smoothed by a Gaussian of this full width at half of its height, as 32-bit floating-point
+    numbers row by row.
 
     Pixels that aren't finite count for nothing, and are NaN. Sums are taken over the root of the summed squares of the
     weights that count, so that white noise keeps its deviation, also at edges and beside undefined pixels.
     """
-    reach = margin(width)
-    weights = numpy.exp(-0.5 * (numpy.arange(-reach, reach + 1) * WIDTH / width) ** 2)
-    down, across = (numpy.sqrt(_along(numpy.ones((1, side)), weights**2)[0]).astype("f4") for side in image.shape)
+    weights = _weights(width)
+    down, across = (_root(side, width) for side in image.shape)
     if _LOOP and image.dtype == numpy.float32:
-        return _in_one_go(image, weights, down, across)
+        return _in_one_go(image, weights, down, across, inner)
+    return numpy.ascontiguousarray(_by_arrays(image, weights, down, across)[inner])
+
+
+def _by_arrays(
+    image: numpy.ndarray, weights: numpy.ndarray, down: numpy.ndarray, across: numpy.ndarray
+) -> numpy.ndarray:
+    """The smoothed image by these weights, whose summed squares have these roots by row and by column."""
     finite = numpy.isfinite(image)
     defined = bool(finite.all())
     total = _along_both(image if defined else _filled(image, finite), weights)
-    beside = None if defined else _beside(finite, reach)
+    beside = None if defined else _beside(finite, len(weights) // 2)
     near = None if beside is None else total.ravel()[beside]
     total /= down[:, None]
     total /= across[None, :]
@@ -71,15 +96,19 @@ def smoothed(image: numpy.ndarray, width: float) -> numpy.ndarray:
 
 
 def _in_one_go(
-    image: numpy.ndarray, weights: numpy.ndarray, down: numpy.ndarray, across: numpy.ndarray
+    image: numpy.ndarray,
+    weights: numpy.ndarray,
+    down: numpy.ndarray,
+    across: numpy.ndarray,
+    inner: Tuple[slice, slice],
 ) -> numpy.ndarray:
-    """The smoothed image by these weights, whose summed squares have these roots by row and by column."""
-    (height, width), reach = image.shape, len(weights) // 2
+    """The same by the loop, of a window alone."""
+    (top, bottom, _), (left, right, _) = (it.indices(side) for it, side in zip(inner, image.shape))
+    made, reach = numpy.empty((max(0, bottom - top), max(0, right - left)), dtype="f4"), len(weights) // 2
     rows, wide = (side + 2 * reach for side in ROOM)
     room = numpy.empty((2 * rows + 1, wide), dtype="f4"), numpy.empty(wide), numpy.empty(wide, dtype="i4")
-    made = numpy.empty((height, width), dtype="f4")
-    image = numpy.ascontiguousarray(image)
-    _LOOP(image, height, width, weights, weights**2, reach, down, across, *room, made)
+    image, window = numpy.ascontiguousarray(image), (top, left, *made.shape)
+    _LOOP(image, *image.shape, *window, weights, weights**2, reach, down, across, *room, made)
     return made
 
 

@@ -128,7 +128,7 @@ def deviations(
     scaled = numpy.subtract(image, background, dtype="f4" if numpy.asarray(image).dtype == "f4" else "f8")
     scaled = scaled.astype("f4", copy=False)
     with numpy.errstate(divide="ignore", invalid="ignore"):
-        scaled *= (times / numpy.asarray(noise)).astype("f4")
+        scaled *= (times / numpy.asarray(noise)).astype("f4", copy=False)
     return scaled
 
 

@@ -88,6 +88,16 @@ def test_smoothing_arrays_that_do_not_stand_row_by_row(both):
     assert same(*both(smoothing.smoothed, image.astype("f8"), 2.6))
 
 
+@pytest.mark.parametrize("shape", SHAPES)
+def test_smoothing_a_window_alone(both, shape):
+    image, rng = uneven(shape, 7), numpy.random.default_rng(8)
+    image[rng.random(shape) < 0.01] = numpy.nan
+    for _ in range(10):
+        inner = tuple(slice(*sorted(rng.integers(0, side + 1, 2).tolist())) for side in shape)
+        one, other = both(smoothing.smoothed, image, 2.6, inner)
+        assert same(one, other) and same(one, smoothing.smoothed(image, 2.6)[inner]) and one.flags.c_contiguous
+
+
 # ---- whole numbers
 
 

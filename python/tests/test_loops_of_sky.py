@@ -4,7 +4,15 @@ import warnings
 import numpy
 import pytest
 
-from maxdetect import _beside as beside, _cells as cells, _loops as loops, _masks as masks, _ranks as ranks, _sky as sky
+from maxdetect import (
+    _beside as beside,
+    _cells as cells,
+    _loops as loops,
+    _masks as masks,
+    _ranks as ranks,
+    scaling,
+    _sky as sky,
+)
 
 pytestmark = pytest.mark.skipif(not loops.library(), reason="the loops aren't compiled")
 
@@ -133,6 +141,34 @@ def test_between_the_cells(monkeypatch, mesh):
                 rows = slice(int(top), int(top + rng.integers(1, height + 9)))
                 columns = slice(int(left), int(left + rng.integers(1, width + 9)))
                 assert same(*both(monkeypatch, sky.between, grid, mesh, rows, columns))
+
+
+def above(image, found, noise, rows, columns):
+    """What an image stands above a sky, by the loop where there is one."""
+    told = found.above(image, noise, rows, columns)
+    return scaling.deviations(image, found.short_level(rows, columns), noise) if told is None else told
+
+
+@pytest.mark.parametrize("mesh", [1, 7, 16, 64])
+@pytest.mark.parametrize("zero", [0.0, -0.0, 17.3, 1e6, -3e38, 1e-42])
+def test_pixels_above_a_sky(monkeypatch, mesh, zero):
+    rng = numpy.random.default_rng(10)
+    for sides in [(1, 1), (1, 4), (5, 1), (3, 4)]:
+        height, width = (side * mesh for side in sides)
+        grid = rng.normal(0, 9, sides)
+        found = sky.Sky((height, width), mesh, zero, grid, numpy.full(sides, 2.0), 2.0)
+        rows, columns = slice(0, height), slice(int(rng.integers(0, width)), width)
+        shape = (height, width - columns.start)
+        assert same(*both(monkeypatch, found.level, rows, columns))
+        for image in nasty(rng, shape):
+            noises = rng.uniform(0, 2, shape).astype("f4")
+            noises[rng.random(shape) < 0.1] = rng.choice([0, numpy.nan, numpy.inf])
+            for noise in (1.7, numpy.float64(0.0), noises, noises.astype("f8"), noises[::-1]):
+                for kind in ("f4", "f8", ">f4"):
+                    assert same(*both(monkeypatch, above, image.astype(kind), found, noise, rows, columns))
+            for kind in ("f4", "f8"):
+                whole = numpy.hstack([image] * 2)[:, :width].astype(kind)
+                assert same(*both(monkeypatch, sky.take_off, whole, zero, grid, mesh, rows))
 
 
 def whole_sky(image, relative, mesh):
