@@ -11,7 +11,7 @@ from typing import Any, Callable, Iterator, List, Optional, Tuple, Union
 import numpy
 
 from ._cells import CLIP, box_sums, cells_along, in_cells, of_row
-from ._loops import Loop, array, flag, number, whole
+from ._loops import Loop, array, flag, number as real, whole
 from ._masks import grown
 from ._ranks import PARTS, at_ranks
 
@@ -59,7 +59,7 @@ Reader = Callable[[slice], numpy.ndarray]
 _BETWEEN = Loop(
     "between_centres",
     *(array("f8"), *[whole] * 3, array("f4"), *[whole] * 4),
-    *(flag, array("f4"), array("f4"), number, number),
+    *(flag, array("f4"), array("f4"), real, real),
     *(array("f8"), array("f4")),
 )
 # What the loop makes: the level with a number added; pixels less that number and then less the level; pixels less both
@@ -354,11 +354,11 @@ class Sky:
         """
         if not self._by_loop(columns) or image.dtype != "f4":
             return None
-        if numpy.ndim(noise) == 0:
+        if not isinstance(noise, numpy.ndarray):
             with numpy.errstate(divide="ignore"):
                 times = float((1 / numpy.asarray(noise)).astype("f4"))
             return _go_on(self.levels, self.mesh, rows, columns, _SCALED, image, added=self.zero, times=times)
-        if numpy.asarray(noise).dtype != "f4":
+        if noise.dtype != "f4":
             return None
         return _go_on(self.levels, self.mesh, rows, columns, _OVER_NOISE, image, noise, added=self.zero)
 
