@@ -9,6 +9,7 @@ import sep
 
 from ._cells import ranges
 from ._loops import Loop, array, whole
+from ._ranks import at_ranks
 from ._sky import Sky, filled, grown, medians
 
 # How far a source's light reaches beyond its pixels.
@@ -34,9 +35,12 @@ def unit_of(values: Union[float, numpy.ndarray]) -> float:
     SEP squares numbers of 32 bits, which have no room for the squares of an image in very small or very large units.
     Over a power of two all numbers keep their digits.
     """
-    every = numpy.asarray(values, dtype="f8").ravel()
+    every = numpy.asarray(values).ravel()
     positive = every[numpy.isfinite(every) & (every > 0)]
-    return 2.0 ** round(float(numpy.log2(numpy.median(positive)))) if positive.size else 1.0
+    if not positive.size:
+        return 1.0
+    middle = numpy.array([[(positive.size - 1) // 2, positive.size // 2]])
+    return 2.0 ** round(float(numpy.log2(at_ranks(positive[None], middle).mean(dtype="f8"))))
 
 
 def bands(height: int, mesh: int) -> List[Tuple[slice, slice]]:
@@ -88,10 +92,9 @@ def of_row(
     """
     left_out = _left_out(segments, within, undefined)
     unit = unit_of(numpy.abs(residual[::7, ::7][~left_out[::7, ::7]]))
-    scaled = residual * numpy.float32(1 / unit)
     lefts = numpy.arange(0, residual.shape[1], mesh)
     area = len(residual) * numpy.diff(lefts, append=residual.shape[1])
-    low, high, outside = ranges(scaled, left_out, mesh)
+    scaled, low, high, outside = ranges(residual, 1 / unit, left_out, mesh)
     share = outside / area
     cells = numpy.array([low, numpy.zeros(len(lefts))])
     cells[:, share > 1 - ENOUGH] = numpy.nan

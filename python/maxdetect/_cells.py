@@ -27,7 +27,7 @@ _SUMS = Loop(
     "column_sums",
     *(_BAND, flag, _BAND, _MASK, _MASK, _COLUMNS, *_SIDES, _COUNTS, _COUNTS, _COLUMNS, array("f8"), _BAND),
 )
-_RANGES = Loop("column_ranges", _BAND, _MASK, *_SIDES, _COLUMNS, _COLUMNS, _COUNTS)
+_RANGES = Loop("column_ranges", _BAND, number, _MASK, *_SIDES, _BAND, _COLUMNS, _COLUMNS, _COUNTS)
 
 
 class Sums(NamedTuple):
@@ -166,22 +166,25 @@ def _by_loops(every: Tuple[numpy.ndarray, ...], factor: numpy.ndarray, unit: num
 
 
 def ranges(
-    values: numpy.ndarray, left_out: numpy.ndarray, mesh: int
-) -> Tuple[numpy.ndarray, numpy.ndarray, numpy.ndarray]:
-    """For each cell in a row of cells the least and the greatest of its numbers that aren't left out, NaN where there
-    are none, and how many pixels are left out.
+    values: numpy.ndarray, times: float, left_out: numpy.ndarray, mesh: int
+) -> Tuple[numpy.ndarray, numpy.ndarray, numpy.ndarray, numpy.ndarray]:
+    """So many times the values of a row of cells; for each cell the least and the greatest of these that aren't left
+    out, NaN where there are none; and how many pixels are left out.
     """
     lefts, width = numpy.arange(0, values.shape[1], mesh), values.shape[1]
     if _RANGES and values.dtype == "f4":
-        (low, high), outside = numpy.empty((2, width), dtype="f4"), numpy.empty(width, dtype="i4")
-        _RANGES(*map(numpy.ascontiguousarray, (values, left_out)), *values.shape, low, high, outside)
+        scaled, (low, high) = numpy.empty(values.shape, dtype="f4"), numpy.empty((2, width), dtype="f4")
+        values, left_out = map(numpy.ascontiguousarray, (values, left_out))
+        outside = numpy.empty(width, dtype="i4")
+        _RANGES(values, times, left_out, *values.shape, scaled, low, high, outside)
         numpy.copyto(low, numpy.nan, where=low > high)
         high[numpy.isnan(low)] = numpy.nan
     else:
-        seen = values.copy()
+        scaled = values * numpy.float32(times)
+        seen = scaled.copy()
         numpy.copyto(seen, numpy.nan, where=left_out)
         low, high = numpy.fmin.reduce(seen), numpy.fmax.reduce(seen)
         outside = numpy.add.reduce(left_out, axis=0, dtype="i4")
     # Of two zeros each may be the least, with a sign or without one.
     low, high = numpy.fmin.reduceat(low, lefts) + numpy.float32(0), numpy.fmax.reduceat(high, lefts) + numpy.float32(0)
-    return low, high, _across(outside, mesh)
+    return scaled, low, high, _across(outside, mesh)

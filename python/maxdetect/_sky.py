@@ -358,7 +358,7 @@ class Sky:
             with numpy.errstate(divide="ignore"):
                 times = float((1 / numpy.asarray(noise)).astype("f4"))
             return _go_on(self.levels, self.mesh, rows, columns, _SCALED, image, added=self.zero, times=times)
-        if noise.dtype != "f4":
+        if noise.dtype != "f4" or noise.shape != image.shape:
             return None
         return _go_on(self.levels, self.mesh, rows, columns, _OVER_NOISE, image, noise, added=self.zero)
 

@@ -115,8 +115,12 @@ def test_a_row_of_cells(monkeypatch, shape, mesh):
             assert same(*both(monkeypatch, second_look, values, relative, deviations[number % 3], quant, mesh))
         outside = rng.random(shape) < 0.3
         outside[:, : mesh + 1] = True
-        assert same(*both(monkeypatch, cells.ranges, values, outside, mesh))
-        assert same(*both(monkeypatch, cells.ranges, values.astype("f8"), outside, mesh))
+        for times in (1.0, 2.0**-7, 2.0**120):
+            assert same(*both(monkeypatch, cells.ranges, values, times, outside, mesh))
+            assert same(*both(monkeypatch, cells.ranges, values.astype("f8"), times, outside, mesh))
+        assert same(*both(monkeypatch, beside.unit_of, values)) and same(
+            beside.unit_of(values), beside.unit_of(values.astype("f8"))
+        )
 
 
 def test_sums_are_those_of_the_pixels():
