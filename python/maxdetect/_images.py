@@ -9,7 +9,7 @@ import os
 import pathlib
 import threading
 import warnings
-from typing import Any, Dict, Iterator, List, Optional, Tuple, Union
+from typing import Any, Callable, Dict, Iterator, List, Optional, Tuple, Union
 
 import numpy
 from astropy.io import fits
@@ -161,7 +161,8 @@ class Plane:
     @functools.cached_property
     def origin(self) -> int:
         """The whole number near its values."""
-        return stored.origin(self._numbers(slice(None), slice(None)), self._meaning)
+        # A few of the numbers are looked at alone.
+        return stored.origin(self._numbers(slice(None), slice(None), stored.mapped), self._meaning)
 
     def __getstate__(self):
         return {**self.__dict__, "_whole": None, "_lock": None}
@@ -195,14 +196,14 @@ class Plane:
         floats = self._place is not None and self._place[0] == ">f4"
         return floats and stored.reads_rows() and self._meaning == stored.Meaning(zero=less)
 
-    def _numbers(self, rows, columns) -> numpy.ndarray:
-        """The stored numbers of some rows and columns."""
+    def _numbers(self, rows, columns, read: Callable = stored.rows_of_file) -> numpy.ndarray:
+        """The stored numbers of some rows and columns, where they stand in the file as it is by a function of it."""
         if self._place:
             dtype, offset = self._place
             first, last, _ = rows.indices(self.shape[0])
             offset += dtype.itemsize * self.shape[1] * (self._plane * self.shape[0] + first)
             with _readable(self.path):
-                return stored.rows_of_file(self.path, dtype, offset, (max(last - first, 0), self.shape[1]), columns)
+                return read(self.path, dtype, offset, (max(last - first, 0), self.shape[1]), columns)
         # Threads share it; one of them reads it.
         with self._lock:
             if self._whole is None:

@@ -13,7 +13,7 @@ from astropy.io import fits
 from . import _cards as cards, _compressed as compressed
 from ._loops import Loop, array, whole
 
-__all__ = ["Meaning", "meaning", "origin", "raw", "reads_rows", "rows_of_file", "sums", "values"]
+__all__ = ["Meaning", "mapped", "meaning", "origin", "raw", "reads_rows", "rows_of_file", "sums", "values"]
 
 # Whole numbers up to this one have no rounding in 32 bits of floating point, and in 64.
 EXACT_32, EXACT_64 = 2**24, 2**53
@@ -80,15 +80,22 @@ def reads_rows() -> bool:
     return bool(_READ_ROWS)
 
 
+def mapped(
+    path: str, dtype: numpy.dtype, offset: int, shape: Tuple[int, int], columns: slice = slice(None)
+) -> numpy.ndarray:
+    """Some columns of numbers that stand in a file row by row, from a byte on, as a part of the file that is mapped:
+    what isn't looked at isn't read. Raises OSError or ValueError where it can't be read.
+    """
+    return numpy.memmap(path, dtype, "r", offset, shape)[:, columns]
+
+
 def rows_of_file(
     path: str, dtype: numpy.dtype, offset: int, shape: Tuple[int, int], columns: slice = slice(None)
 ) -> numpy.ndarray:
-    """Some columns of numbers that stand in a file row by row, from a byte on: an array of its own, or a part of the
-    file that is mapped. Raises OSError or ValueError where they can't be read.
-    """
+    """The same as an array of its own, in this machine's order of bytes, where there are loops."""
     begin, end, step = columns.indices(shape[1])
     if not _READ_ROWS or not shape[0] or end <= begin or step != 1:
-        return numpy.memmap(path, dtype, "r", offset, shape)[:, columns]
+        return mapped(path, dtype, offset, shape, columns)
     found, failed = numpy.empty((shape[0], end - begin), dtype=dtype.newbyteorder("=")), numpy.zeros(1, dtype="i4")
     size = dtype.itemsize
     file = os.open(path, os.O_RDONLY | os.O_CLOEXEC)

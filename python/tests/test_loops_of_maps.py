@@ -128,3 +128,13 @@ def test_a_file_that_ends_too_soon(tmp_path):
 def test_a_file_that_can_not_be_read(tmp_path):
     with pytest.raises(OSError, match="directory"):
         stored.rows_of_file(os.fspath(tmp_path), numpy.dtype(">f4"), 0, (3, 3))
+
+
+def test_for_its_origin_an_image_is_not_read(tmp_path, monkeypatch):
+    path = os.fspath(tmp_path / "long.fits")
+    images.fits.PrimaryHDU(numpy.full((300, 200), 2**60 + 5)).writeto(path)
+    plane = images.opened(path)
+    with monkeypatch.context() as without:
+        without.setattr(stored, "_READ_ROWS", None)
+        assert plane.origin == 2**60 + 5
+    assert not plane.window(slice(None), less=plane.origin).any()
