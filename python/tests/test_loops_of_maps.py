@@ -135,6 +135,6 @@ def test_for_its_origin_an_image_is_not_read(tmp_path, monkeypatch):
     images.fits.PrimaryHDU(numpy.full((300, 200), 2**60 + 5)).writeto(path)
     plane = images.opened(path)
     with monkeypatch.context() as without:
-        without.setattr(stored, "_READ_ROWS", None)
+        without.setattr(stored, "_READ_ROWS", lambda *given: pytest.fail("rows were read"))
         assert plane.origin == 2**60 + 5
     assert not plane.window(slice(None), less=plane.origin).any()
