@@ -1,19 +1,40 @@
-"""Rows of the program's catalogue for nodes of its tree that it didn't pick, by the same definitions."""
+"""Rows of the program's catalogue for nodes of its tree that it didn't pick, by the same definitions.
+
+Where the loops in C are compiled (nodes.c) they go through the pixels; numpy gives the same.
+"""
 from typing import Dict, List, NamedTuple, Optional, Tuple
 
 import numpy
 
 from ._columns import CATALOGUE
+from ._loops import Loop, array, whole
 from ._rows import Rows, behind_each_other
 from ._windows import rows_and_columns
 
-__all__ = ["Pixels", "bases_of", "of_places", "rows", "stacked"]
+__all__ = ["Pixels", "bases_of", "of_owners", "of_places", "rows", "stacked"]
 
 AROUND = [(down, across) for down in (-1, 0, 1) for across in (-1, 0, 1) if down or across]
 # Sums of numbers of 32 bits times places are taken by halves of so many bits: each has room in 64.
 HALF = 16
 # The number of an undefined pixel.
 NONE = numpy.iinfo("i4").min
+
+# Places, numbers and owners of pixels, and how many they are; the owners' places among the nodes, and how many owners
+# and nodes there are; the window's width; and where nodes begin, and rows, columns and numbers of their pixels.
+_NODE_PIXELS = Loop(
+    "node_pixels",
+    *(array("i8"), array("i4"), array("i4"), whole),
+    *(array("i8"), whole, whole, whole),
+    *[array("i8")] * 4,
+)
+# The numbers of a window, its height and width; rows and columns of pixels and where nodes begin, how many nodes and
+# pixels there are; and the nodes' limits, and the greatest numbers below.
+_GREATEST_BELOW = Loop(
+    "greatest_below",
+    *(array(">i4"), whole, whole),
+    *([array("i8")] * 3),
+    *(whole, whole, array("i8"), array("i8")),
+)
 
 
 class Pixels(NamedTuple):
@@ -55,13 +76,31 @@ def of_places(
     return Pixels(rows, columns, values[order].astype("i8"), starts), order
 
 
+def of_owners(
+    places: numpy.ndarray,
+    values: numpy.ndarray,
+    owners: numpy.ndarray,
+    nodes: numpy.ndarray,
+    count: int,
+    shape: Tuple[int, ...],
+) -> Pixels:
+    """The same of pixels with owners: `nodes` has for each owner which of so many nodes it is, or -1."""
+    if not _NODE_PIXELS:
+        at = numpy.flatnonzero(nodes[owners] >= 0)
+        return of_places(places[at], values[at], nodes[owners[at]], count, shape)[0]
+    starts, found = numpy.empty(count + 2, dtype="i8"), numpy.empty((3, len(places)), dtype="i8")
+    _NODE_PIXELS(places, values, owners, len(places), nodes, len(nodes), count, shape[1], starts, *found)
+    rows, columns, numbers = found[:, : starts[count]]
+    return Pixels(rows, columns, numbers, starts[:count])
+
+
 def bases_of(numbers: numpy.ndarray, pixels: Pixels, told: List[Optional[int]]) -> numpy.ndarray:
     """The nodes' bases. One that isn't told is the greatest number beside the pixels, which are a whole component then,
     and NONE where nothing beside is defined.
     """
     if None not in told:
         return numpy.array(told, dtype="i8")
-    beside = _greatest_below(numbers, pixels, pixels.each(pixels.least(pixels.values)))
+    beside = _greatest_below(numbers, pixels, pixels.least(pixels.values))
     return numpy.array([level if base is None else base for base, level in zip(told, beside.tolist())], dtype="i8")
 
 
@@ -81,7 +120,13 @@ def _type(name: str) -> str:
 
 
 def _greatest_below(numbers: numpy.ndarray, pixels: Pixels, limits: numpy.ndarray) -> numpy.ndarray:
-    """For each node the greatest number beside its pixels that is less than their limit."""
+    """For each node the greatest number beside its pixels that is less than its limit; none of their own is."""
+    if _GREATEST_BELOW:
+        stored, found = numpy.ascontiguousarray(numbers, dtype=">i4"), numpy.empty(len(limits), dtype="i8")
+        own = (pixels.rows, pixels.columns, pixels.starts, len(pixels.starts), len(pixels.rows))
+        _GREATEST_BELOW(stored, *stored.shape, *own, limits, found)
+        return found
+    limits = pixels.each(limits)
     greatest = numpy.full(len(limits), NONE, dtype="i8")
     for down, across in AROUND:
         rows, columns = pixels.rows + down, pixels.columns + across

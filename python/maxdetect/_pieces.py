@@ -23,6 +23,8 @@ __all__ = ["Parts", "sources"]
 # So many pixels are at work at a time.
 CACHED = 2**16
 LEAST = numpy.iinfo("i4").min
+# The limit of what has none.
+WITHOUT = numpy.iinfo("i8").max
 # By how many rows and columns the neighbours behind a pixel lie further on.
 BEHIND = [(0, 1), (1, -1), (1, 0), (1, 1)]
 
@@ -46,6 +48,14 @@ _OWNED = Loop(
     *_LABELLED[:-1],
     *(row_by_row("?"), row_by_row("i4"), whole),
     *(row_by_row("i8"), row_by_row("i4"), row_by_row("i4"), row_by_row("?"), row_by_row("i8")),
+)
+# Numbers and owners of pixels, which of them are shown, and how many they are; the owners' numbers and limits, and how
+# many these are; and what the pixels get.
+_RENUMBERED = Loop(
+    "renumbered",
+    *(row_by_row("i4"), row_by_row("i4"), row_by_row("?"), whole),
+    *(row_by_row("i4"), row_by_row("i8"), whole),
+    *(row_by_row("i4"), row_by_row("?")),
 )
 
 
@@ -278,35 +288,55 @@ def sources(
         return parts
     several = numpy.flatnonzero(numpy.bincount(owner[1:], minlength=count + 1) > 1)
     bases = groups.levels(meetings, owner)[several]
-    return _with_changed(parts, owner, *_changed(numbers, values, parts, several, bases))
+    return _with_changed(parts, values, owner, several, *_changed(numbers, values, parts, several, bases))
 
 
 def _changed(
     numbers: numpy.ndarray, values: numpy.ndarray, parts: Parts, several: numpy.ndarray, bases: numpy.ndarray
 ) -> Tuple[Rows, numpy.ndarray]:
-    """The rows of the nodes that several parts make together, and which pixels of a window's components these have."""
+    """The rows of the nodes that several parts make together, and the numbers above which these have pixels."""
     place = numpy.full(len(parts.components), -1)
     place[several] = numpy.arange(len(several))
-    at = numpy.flatnonzero(place[parts.owners] >= 0)
-    pixels, order = nodes.of_places(parts.places[at], values[at], place[parts.owners[at]], len(several), numbers.shape)
+    pixels = nodes.of_owners(parts.places, values, parts.owners, place, len(several), numbers.shape)
     told = [None if base == groups.NONE else base for base in bases.tolist()]
-    rows, inside = nodes.rows(several, pixels, nodes.bases_of(numbers, pixels, told))
-    within = numpy.zeros(len(parts.places), dtype=bool)
-    within[at[order]] = inside
-    return rows, within
+    above = nodes.bases_of(numbers, pixels, told)
+    return nodes.rows(several, pixels, above)[0], above
 
 
-def _with_changed(parts: Parts, owner: numpy.ndarray, changed: Rows, within: numpy.ndarray) -> Parts:
-    """The parts with the nodes that several make together, numbered by their first pixels."""
-    alone, together = owner == numpy.arange(len(owner)), numpy.zeros(len(owner), dtype=bool)
-    together[numpy.asarray(changed["NUMBER"])] = True
-    alone &= ~together
-    alone[0] = False
-    rows = nodes.stacked(parts.catalogue[alone[numpy.asarray(parts.catalogue["NUMBER"])]], changed)
-    rows = rows[numpy.lexsort((rows["XFIRST"], rows["YFIRST"]))]
+def _with_changed(
+    parts: Parts,
+    values: numpy.ndarray,
+    owner: numpy.ndarray,
+    several: numpy.ndarray,
+    changed: Rows,
+    above: numpy.ndarray,
+) -> Parts:
+    """The parts with the nodes that several make together, numbered by their first pixels. These nodes have the pixels
+    above such numbers.
+    """
+    alone, limits = owner == numpy.arange(len(owner)), numpy.full(len(owner), WITHOUT)
+    limits[several] = above
+    alone[several] = alone[0] = False
+    both = nodes.stacked(parts.catalogue, changed)
+    # Each row is taken once, since there are many columns.
+    some = numpy.flatnonzero(numpy.append(alone[numpy.asarray(parts.catalogue["NUMBER"])], several > 0))
+    rows = both[some[numpy.lexsort((both["XFIRST"][some], both["YFIRST"][some]))]]
     old, new = numpy.asarray(rows["NUMBER"]), numpy.zeros(len(owner), dtype="i4")
     new[old] = numpy.arange(1, len(rows) + 1)
     rows["NUMBER"] = numpy.arange(1, len(rows) + 1, dtype=rows["NUMBER"].dtype)
-    shown = numpy.where(together[parts.owners], within, parts.shown)
     components = numpy.concatenate([[0], parts.components[old]])
-    return Parts(rows, parts.places, new[parts.owners], shown, components)
+    return Parts(rows, parts.places, *_renumbered(values, parts, new, limits), components)
+
+
+def _renumbered(
+    values: numpy.ndarray, parts: Parts, new: numpy.ndarray, limits: numpy.ndarray
+) -> Tuple[numpy.ndarray, numpy.ndarray]:
+    """The parts' pixels' owners by their new numbers, and which pixels are shown: where an owner has a limit those
+    above, and else those that were.
+    """
+    if not _RENUMBERED:
+        limit = limits[parts.owners]
+        return new[parts.owners], numpy.where(limit == WITHOUT, parts.shown, values > limit)
+    owners, shown = numpy.empty_like(parts.owners), numpy.empty_like(parts.shown)
+    _RENUMBERED(values, parts.owners, parts.shown, len(values), new, limits, len(new), owners, shown)
+    return owners, shown
