@@ -3,9 +3,9 @@
 #include "loops.h"
 #include "stored.h"
 
-/* Of so many pixels one is looked for at once; and so many rows further on it is sooner to look for a row's pixels than
- * to go through those before. */
-enum { BLOCK = 32, FAR = 4 };
+/* Of so many pixels one is looked for at once, and so many are counted at a time; and so many rows further on it is
+ * sooner to look for a row's pixels than to go through those before. */
+enum { BLOCK = 32, ROUND = 1 << 20, FAR = 4 };
 
 /* Whether some numbers reach a threshold. */
 static inline __attribute__((always_inline)) int reach(const uint32_t *numbers, int64_t count, int64_t threshold)
@@ -18,7 +18,29 @@ static inline __attribute__((always_inline)) int reach(const uint32_t *numbers, 
     return greatest >= threshold;
 }
 
-/* Finds the pixels of at least a threshold among so many, the first of which has this place, and how many they are. */
+/* How many numbers reach a threshold. */
+VECTORS
+LOOP void reaching(const uint32_t *numbers, int64_t count, int64_t threshold, int64_t *found)
+{
+    if (threshold > INT32_MAX) {
+        *found = 0;
+        return;
+    }
+    const int32_t least = threshold < INT32_MIN ? INT32_MIN : (int32_t)threshold;
+    int64_t all = 0;
+    for (int64_t begin = 0; begin < count; begin += ROUND) {
+        const int64_t end = begin + ROUND < count ? begin + ROUND : count;
+        /* In 32 bits, of which more are worked on at once. */
+        int32_t own = 0;
+        for (int64_t place = begin; place < end; place++)
+            own += number_of(numbers[place]) >= least;
+        all += own;
+    }
+    *found = all;
+}
+
+/* Finds the pixels of at least a threshold among so many, the first of which has this place, and how many they are.
+ * There is room for one more. */
 VECTORS
 LOOP void threshold_set(const uint32_t *numbers, const uint32_t *segments, int64_t count, int64_t threshold,
                         int64_t first, int64_t *places, int32_t *values, int32_t *labels, int64_t *found)

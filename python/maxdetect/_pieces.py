@@ -28,6 +28,8 @@ WITHOUT = numpy.iinfo("i8").max
 # By how many rows and columns the neighbours behind a pixel lie further on.
 BEHIND = [(0, 1), (1, -1), (1, 0), (1, 1)]
 
+# Some numbers, how many they are, the threshold, and how many reach it.
+_REACHING = Loop("reaching", row_by_row(">i4"), whole, whole, row_by_row("i8"))
 # Numbers and map of some pixels, how many they are, the threshold, and the first one's place; and places, values and
 # labels of those that pass the threshold, and how many these are.
 _THRESHOLD_SET = Loop(
@@ -65,13 +67,12 @@ class _Pixels:
     """
 
     def __init__(self, numbers: numpy.ndarray, segments: numpy.ndarray, threshold: int):
-        (self.height, self.width), found = numbers.shape, []
-        for rows in bands(numbers):
-            found.append(_threshold_set(numbers[rows], segments[rows], threshold, rows.start * self.width))
-            let_go(segments)
-        behind = numpy.full(3, numpy.iinfo("i8").max), numpy.full(1, LEAST, dtype="i4"), numpy.zeros(1, dtype="i4")
-        self.places, self.values, self.labels = (numpy.concatenate(parts) for parts in zip(*found, behind))
+        self.height, self.width = numbers.shape
+        made = _threshold_set if _THRESHOLD_SET else _threshold_set_by_numpy
+        self.places, self.values, self.labels = made(numbers, segments, threshold)
         self.count = len(self.values) - 1
+        self.places[self.count :] = numpy.iinfo("i8").max
+        self.values[-1], self.labels[-1] = LEAST, 0
 
     def _in_row(self, places: numpy.ndarray, inside: List[numpy.ndarray]) -> List[numpy.ndarray]:
         """Which pixels those of a row are that stand left of some places, in them and right of them, where these are
@@ -186,22 +187,37 @@ class _Pixels:
                 yield one, numpy.searchsorted(self.places, self.places[one] + step)
 
 
-def _threshold_set(
-    numbers: numpy.ndarray, segments: numpy.ndarray, threshold: int, first: int
-) -> Tuple[numpy.ndarray, numpy.ndarray, numpy.ndarray]:
-    """Places, numbers and labels of the pixels of some rows that pass the threshold; `first` is the place of the rows'
-    first pixel.
-    """
-    if not _THRESHOLD_SET:
-        values = numpy.asarray(numbers, dtype="i4").ravel()
+def _threshold_set(numbers: numpy.ndarray, segments: numpy.ndarray, threshold: int) -> Tuple[numpy.ndarray, ...]:
+    """Places, numbers and labels of a window's pixels that pass the threshold, with room for those behind the last."""
+    reaching, count = 0, numpy.empty(1, dtype="i8")
+    for rows in bands(numbers):
+        some = numpy.ascontiguousarray(numbers[rows], dtype=">i4")
+        _REACHING(some, some.size, threshold, count)
+        reaching += int(count[0])
+    found = numpy.empty(reaching + 3, dtype="i8"), *numpy.empty((2, reaching + 1), dtype="i4")
+    first = 0
+    for rows in bands(numbers):
+        some, its = (numpy.ascontiguousarray(them[rows], dtype=">i4") for them in (numbers, segments))
+        left = (them[first:] for them in found)
+        _THRESHOLD_SET(some, its, some.size, threshold, rows.start * numbers.shape[1], *left, count)
+        first += int(count[0])
+        let_go(segments)
+    return found
+
+
+def _threshold_set_by_numpy(
+    numbers: numpy.ndarray, segments: numpy.ndarray, threshold: int
+) -> Tuple[numpy.ndarray, ...]:
+    """The same without the loops."""
+    found = []
+    for rows in bands(numbers):
+        values = numpy.asarray(numbers[rows], dtype="i4").ravel()
         places = numpy.flatnonzero(values >= threshold)
-        labels = numpy.asarray(segments).ravel()[places].astype("i4")
-        return places + first, values[places], labels
-    numbers, segments = (numpy.ascontiguousarray(them, dtype=">i4") for them in (numbers, segments))
-    places, values, labels = (numpy.empty(numbers.size, dtype=dtype) for dtype in ("i8", "i4", "i4"))
-    count = numpy.empty(1, dtype="i8")
-    _THRESHOLD_SET(numbers, segments, numbers.size, threshold, first, places, values, labels, count)
-    return places[: count[0]], values[: count[0]], labels[: count[0]]
+        labels = numpy.asarray(segments[rows]).ravel()[places].astype("i4")
+        found.append((places + rows.start * numbers.shape[1], values[places], labels))
+        let_go(segments)
+    behind = numpy.empty(3, dtype="i8"), *numpy.empty((2, 1), dtype="i4")
+    return tuple(numpy.concatenate(parts) for parts in zip(*found, behind))
 
 
 def _chunks(some: numpy.ndarray) -> Iterator[numpy.ndarray]:
