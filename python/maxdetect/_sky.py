@@ -37,6 +37,8 @@ __all__ = [
 KEPT = 0.997
 # Sampled pixels along a side of a cell, for the first guess.
 SAMPLED = 32
+# The step between an image's values is told from so many of them.
+STEPS = 4000
 # Rows of cells that are looked at in one go.
 AT_ONCE = 4
 # The part of a cell that has to be left for its level to count.
@@ -61,6 +63,11 @@ _BETWEEN = Loop(
     *(array("f8"), *[whole] * 3, array("f4"), *[whole] * 4),
     *(flag, array("f4"), array("f4"), real, real),
     *(array("f8"), array("f4")),
+)
+# A row of cells, its height and width, the mesh and from which to which pixel steps go; the parts; room, the numbers at
+# these parts, and how many are finite.
+_LOOK = Loop(
+    "cells_at_parts", *(array("f4"), *[whole] * 4), *(array("f8"), whole), array("u4"), array("f4"), array("i8")
 )
 # What the loop makes: the level with a number added; pixels less that number and then less the level; pixels less both
 # together, times a factor, or a factor over their noise.
@@ -236,28 +243,64 @@ def _some_finite(values: numpy.ndarray, count: int) -> numpy.ndarray:
 
 def quantum(values: numpy.ndarray) -> float:
     """The step between an image's values, told from some of them; 0 where they come in no steps."""
-    values = _some_finite(values.ravel(), 4000)
+    return _step_of(_some_finite(values.ravel(), STEPS))
+
+
+def _step_of(values: numpy.ndarray) -> float:
+    """The same, told from these."""
     steps = numpy.diff(numpy.unique(values))
     if not steps.size:
         return 0.0
     return float(numpy.quantile(steps, 0.1)) if len(steps) < len(values) / 4 else 0.0
 
 
+def _sampled(band: numpy.ndarray, mesh: int) -> numpy.ndarray:
+    """The pixels of a row of cells that the first look sees, a row for each cell."""
+    step = max(1, mesh // SAMPLED)
+    sample = in_cells(band, mesh, numpy.nan)[::step, :, ::step].swapaxes(0, 1)
+    return sample.reshape(len(sample), -1)
+
+
+def _quantum_of(band: numpy.ndarray, mesh: int) -> float:
+    """The quantum of the sampled pixels of a row of cells: the first cells tell it, if they have enough pixels."""
+    own = cells_along(len(band), max(1, mesh // SAMPLED)) * cells_along(mesh, max(1, mesh // SAMPLED))
+    few = _some_finite(_sampled(band[:, : mesh * cells_along(2 * STEPS, own)], mesh).ravel(), STEPS)
+    return _step_of(few) if len(few) == STEPS else quantum(_sampled(band, mesh))
+
+
 def _first_row(band: numpy.ndarray, mesh: int, rng: numpy.random.Generator) -> Tuple[numpy.ndarray, ...]:
     """The median of each cell in a row of cells, how far below it a deviation lies, how many pixels were looked at,
     and the step of the values.
     """
-    step = max(1, mesh // SAMPLED)
-    sample = in_cells(band, mesh, numpy.nan)[::step, :, ::step].swapaxes(0, 1)
-    sample = sample.reshape(len(sample), -1)
-    quant = quantum(sample)
+    quant = _quantum_of(band, mesh)
+    if not quant and _LOOK and band.dtype == "f4":
+        (low, middle), count = _parts_of_cells(band, mesh)
+    else:
+        (low, middle), count = _parts_of(_sampled(band, mesh), quant, rng)
+    return middle, _less_rounding(middle - low, quant), count, numpy.full(len(count), quant)
+
+
+def _parts_of(sample: numpy.ndarray, quant: float, rng: numpy.random.Generator) -> Tuple[numpy.ndarray, numpy.ndarray]:
+    """For each row of numbers, which come in steps, those at `PARTS` in 64 bits, a row for each part, and how many are
+    finite.
+    """
     if quant:
         sample = sample + ((rng.random(sample.shape) - 0.5) * quant).astype(sample.dtype)
     finite = numpy.isfinite(sample)
     count = finite.sum(axis=1)
     ranks = numpy.clip((count[:, None] * PARTS).astype(int), 0, sample.shape[1] - 1)
-    low, middle = at_ranks(numpy.where(finite, sample, sample.dtype.type(numpy.nan)), ranks).T.astype("f8")
-    return middle, _less_rounding(middle - low, quant), count, numpy.full(len(count), quant)
+    return at_ranks(numpy.where(finite, sample, sample.dtype.type(numpy.nan)), ranks).T.astype("f8"), count
+
+
+def _parts_of_cells(band: numpy.ndarray, mesh: int) -> Tuple[numpy.ndarray, numpy.ndarray]:
+    """The same of the sampled pixels of a row of cells, by the loop."""
+    step, cells = max(1, mesh // SAMPLED), cells_along(band.shape[1], mesh)
+    found, count = numpy.empty((cells, len(PARTS)), dtype="f4"), numpy.empty(cells, dtype="i8")
+    room = numpy.empty(3 * cells_along(len(band), step) * cells_along(mesh, step), dtype="u4")
+    band = numpy.ascontiguousarray(band)
+    _LOOK(band, *band.shape, mesh, step, PARTS, len(PARTS), room, found, count)
+    # Of two zeros each may stand first, with a sign or without one.
+    return (found + numpy.float32(0)).T.astype("f8"), count
 
 
 def _less_rounding(deviation: numpy.ndarray, quant: float) -> numpy.ndarray:

@@ -94,6 +94,27 @@ def test_numbers_in_order(monkeypatch, shape):
             assert ranks.quantiles(values.ravel(), ranks.PARTS) == pytest.approx(wanted, rel=1e-6)
 
 
+def first_look(values, mesh):
+    """What the first look tells of a row of cells."""
+    return sky._first_row(values, mesh, numpy.random.default_rng(11))
+
+
+@pytest.mark.parametrize("shape", [*SHAPES, (64, 900)])
+@pytest.mark.parametrize("mesh", [1, 2, 16, 64, 65, 100, 1000])
+def test_a_first_look_at_a_row_of_cells(monkeypatch, shape, mesh):
+    rng = numpy.random.default_rng(12)
+    for values in nasty(rng, shape):
+        for kind in ("f4", "f8"):
+            assert same(*both(monkeypatch, first_look, values.astype(kind), mesh))
+
+
+def test_the_step_of_values_that_the_first_cells_do_not_tell():
+    values = numpy.rint(numpy.random.default_rng(13).normal(0, 5, (64, 4096))).astype("f4")
+    for undefined in (0, 200, 2000, 4000, 4096):
+        values[:, :undefined] = numpy.nan
+        assert sky._quantum_of(values, 64) == sky.quantum(sky._sampled(values, 64)) == (undefined < 4096)
+
+
 def second_look(values, relative, deviation, quant, mesh):
     """What the second look tells of a row of cells."""
     return tuple(sky._second_row(values, relative, deviation, quant, mesh))
