@@ -2,7 +2,7 @@
 #include "loops.h"
 
 /* Each number of a map, but 0, becomes that at its place among `length` others; one below 0 is a place from the end. */
-LOOP void renumbered(int32_t *map, int64_t count, const int32_t *numbers, int64_t length)
+LOOP void map_renumbered(int32_t *map, int64_t count, const int32_t *numbers, int64_t length)
 {
     for (int64_t place = 0; place < count; place++)
         if (map[place] != 0)

@@ -17,7 +17,7 @@ __all__ = ["Gathered", "hide", "numbered", "renumber", "without_gaps"]
 Executor = Optional[concurrent.futures.Executor]
 
 # A map, how many pixels it has, the numbers, and how many they are.
-_RENUMBERED = Loop("renumbered", array("i4"), whole, array("i4"), whole)
+_RENUMBERED = Loop("map_renumbered", array("i4"), whole, array("i4"), whole)
 # A map, how many pixels, their places and owners, which are shown, the first number, and whether only pixels get one
 # that have none.
 _PUT_OWNERS = Loop("put_owners", array("i4"), whole, array("i8"), array("i4"), array("?"), flag, flag)
@@ -45,7 +45,7 @@ class _Renumbered:
 
     def __call__(self, part: maps.Part) -> None:
         own = part.pixels().reshape(-1)
-        if _RENUMBERED:
+        if _RENUMBERED and own.dtype == self.numbers.dtype == "i4":
             _RENUMBERED(own, len(own), self.numbers, len(self.numbers))
             return
         # Most pixels are no source's.
@@ -93,7 +93,8 @@ class Gathered:
     def take(self, piece: Piece) -> None:
         """Adds a piece. What a source has that is cut, no other one has already."""
         first, flat, alone = self.count + 1, self.segments.reshape(-1), bool(piece.cut.any())
-        if _PUT_OWNERS:
+        # A map that is written as it is filled has its file's order of bytes.
+        if _PUT_OWNERS and flat.dtype == "i4":
             _PUT_OWNERS(flat, len(piece.pixels), piece.pixels, piece.owners, piece.shown, first, alone)
         else:
             numbers = piece.owners + first

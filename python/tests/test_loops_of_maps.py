@@ -28,10 +28,11 @@ def _both(monkeypatch):
 # ---- maps
 
 
+@pytest.mark.parametrize("dtype", ["i4", ">i4"])
 @pytest.mark.parametrize("shape", [(0, 7), (1, 1), (40, 33), (300, 270)])
-def test_maps_are_renumbered(both, shape):
+def test_maps_are_renumbered(both, shape, dtype):
     rng = numpy.random.default_rng(shape[0])
-    segments = (rng.integers(-9, 10, shape) * (rng.random(shape) < 0.3)).astype("i4")
+    segments = (rng.integers(-9, 10, shape) * (rng.random(shape) < 0.3)).astype(dtype)
     places = rng.permutation(9)[:6]
 
     def renumbered():
@@ -44,13 +45,14 @@ def test_maps_are_renumbered(both, shape):
     assert not segments.any() or (with_them != segments).any()
 
 
+@pytest.mark.parametrize("dtype", ["i4", ">i4"])
 @pytest.mark.parametrize("cut", [False, True])
-def test_pieces_put_their_numbers_into_the_map(both, cut):
+def test_pieces_put_their_numbers_into_the_map(both, cut, dtype):
     rng = numpy.random.default_rng(cut)
     table = Rows({"NUMBER": numpy.arange(1, 6, dtype="i4")})
 
     def filled():
-        gathered = joining.Gathered(numpy.zeros((9, 11), dtype="i4"), lambda count: None)
+        gathered = joining.Gathered(numpy.zeros((9, 11), dtype=dtype), lambda count: None)
         for _ in range(3):
             pixels = rng.choice(99, 40, replace=False)
             owners = rng.integers(0, 5, 40).astype("i4")
