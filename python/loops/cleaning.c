@@ -44,6 +44,50 @@ LOOP void shown_pixels(const int64_t *places, const uint8_t *shown, int64_t coun
     *found = own;
 }
 
+/* Lists the pixels that aren't shown, and tells how many they are, and how many of each component. Owners are sources by
+ * their numbers, of which each has one. */
+LOOP void hidden_pixels(const int32_t *owners, const uint8_t *shown, int64_t count, const int64_t *components,
+                        int64_t sources, int64_t *restrict pixels, int64_t *found, int64_t *restrict hidden)
+{
+    int64_t own = 0;
+    for (int64_t pixel = 0; pixel < count; pixel++) {
+        pixels[own] = pixel;
+        own += !shown[pixel];
+    }
+    for (int64_t at = 0; at < own; at++) {
+        const int64_t owner = owners[pixels[at]];
+        if (owner >= 0 && owner < sources)
+            hidden[components[owner]]++;
+    }
+    *found = own;
+}
+
+/* Whether a mask has a pixel up to so many rows and columns away. */
+static int is_near(const uint8_t *mask, int64_t height, int64_t width, int64_t row, int64_t column, int64_t reach)
+{
+    const int64_t top = row > reach ? row - reach : 0, bottom = row + reach < height ? row + reach : height - 1;
+    const int64_t left = column > reach ? column - reach : 0, right = column + reach < width ? column + reach : width - 1;
+    for (int64_t y = top; y <= bottom; y++)
+        for (int64_t x = left; x <= right; x++)
+            if (mask[y * width + x])
+                return 1;
+    return 0;
+}
+
+/* Which of some pixels that aren't shown don't lie within reach of one that is, if their component is chosen: the mask
+ * has those that are, and its first row begins at a place. */
+LOOP void away_from_shown(const int64_t *pixels, int64_t count, const int64_t *places, const int32_t *owners,
+                          const int64_t *components, const uint8_t *chosen, int64_t sources, const uint8_t *mask,
+                          int64_t first, int64_t height, int64_t width, int64_t reach, uint8_t *away)
+{
+    for (int64_t at = 0; at < count; at++) {
+        const int64_t place = places[pixels[at]] - first, owner = owners[pixels[at]];
+        if (owner < 0 || owner >= sources || !chosen[components[owner]] || place < 0 || place >= height * width)
+            continue;
+        away[pixels[at]] = !is_near(mask, height, width, place / width, place % width, reach);
+    }
+}
+
 /* The mean of so many pixels with these sums, where they are at least so many, but not below 0; and else 0. */
 LOOP void mean_light(const int64_t *pixels, const int64_t *totals, int64_t count, double least, double *light)
 {

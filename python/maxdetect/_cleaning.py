@@ -37,6 +37,21 @@ _BESIDE = Loop("beside", array(">i4"), whole, whole, array("?"))
 _PAINT = Loop("paint", array("i8"), array("?"), whole, flag, whole, array("?"), whole)
 # The same pixels, and the window's width; and rows and columns of those that are shown, and how many these are.
 _SHOWN = Loop("shown_pixels", array("i8"), array("?"), whole, whole, array("i8"), array("i8"), array("i8"))
+# Owners of pixels, which are shown, and how many they are; the owners' components and how many owners there are; and
+# which pixels aren't shown, how many these are, and how many of each component.
+_HIDDEN = Loop(
+    "hidden_pixels",
+    *(array("i4"), array("?"), whole, array("i8"), whole),
+    *(array("i8"), array("i8"), array("i8")),
+)
+# Which of the pixels are looked at, and how many these are; places and owners of all; the components, which of them are
+# chosen, and how many owners there are; a mask, its first place, its height and width, and how far it reaches; and
+# which of all pixels lie away.
+_AWAY = Loop(
+    "away_from_shown",
+    *(array("i8"), whole, array("i8"), array("i4"), array("i8"), array("?"), whole),
+    *(array("?"), whole, whole, whole, whole, array("?")),
+)
 # Some pixels' counts and sums, how many pixels these are, the least count that tells, and the light.
 _MEAN = Loop("mean_light", array("i8"), array("i8"), whole, real, array("f8"))
 # The numbers of a window, and how many they are; the pixels of its parts, their owners, which are shown, and how many
@@ -110,9 +125,8 @@ class _Bands:
         """The numbers of some rows, as they are worked with."""
         return numpy.asarray(self.numbers[rows], dtype=">i4" if _BESIDE else "i4")
 
-    def near(self, rows: slice, reach: int, shown: bool) -> numpy.ndarray:
-        """Which pixels of some rows lie within reach of a component with a source, or of a source's node."""
-        wide = self.rows(rows, reach)
+    def painted(self, wide: slice, shown: bool) -> numpy.ndarray:
+        """Which pixels of some rows belong to a component with a source, or to a source's node."""
         some = slice(*numpy.searchsorted(self.parts.places, (wide.start * self.width, wide.stop * self.width)))
         painted = numpy.zeros((wide.stop - wide.start, self.width), dtype=bool)
         places, own, first = self.parts.places[some], self.parts.shown[some], wide.start * self.width
@@ -120,7 +134,12 @@ class _Bands:
             _PAINT(places, own, len(places), shown, first, painted, painted.size)
         else:
             painted.ravel()[places - first] = own if shown else True
-        return grown(painted, reach)[rows.start - wide.start : rows.stop - wide.start]
+        return painted
+
+    def near(self, rows: slice, reach: int, shown: bool) -> numpy.ndarray:
+        """Which pixels of some rows lie within reach of a component with a source, or of a source's node."""
+        wide = self.rows(rows, reach)
+        return grown(self.painted(wide, shown), reach)[rows.start - wide.start : rows.stop - wide.start]
 
     def beside(self, rows: slice, values: numpy.ndarray, threshold: int) -> numpy.ndarray:
         """Which pixels of some rows, with these numbers, lie beside all components with a source."""
@@ -152,23 +171,44 @@ class _Bands:
         _SHOWN(places, shown, len(places), self.width, rows, columns, count)
         return rows[: count[0]], columns[: count[0]]
 
-    def away(self) -> numpy.ndarray:
-        """Which of the parts' pixels lie away from all sources."""
+    def away(self, least: float) -> numpy.ndarray:
+        """Which of the parts' pixels lie away from all sources; of components with so many of these alone, and maybe of
+        others.
+        """
+        if _AWAY:
+            return self._away(least)
         found = [numpy.zeros(0, dtype=bool)]
         for rows, some in self:
             near = self.near(rows, BESIDE, shown=True)
             found.append(~near.ravel()[self.parts.places[some] - rows.start * self.width])
         return numpy.concatenate(found)
 
+    def _away(self, least: float) -> numpy.ndarray:
+        """The same by loops, which look at components alone that have so many pixels besides their sources' nodes."""
+        places, owners, shown = self.parts.places, self.parts.owners, self.parts.shown
+        components = numpy.ascontiguousarray(self.parts.components, dtype="i8")
+        hidden = numpy.zeros(int(components.max(initial=0)) + 1, dtype="i8")
+        pixels, count = numpy.empty(len(shown), dtype="i8"), numpy.empty(1, dtype="i8")
+        _HIDDEN(owners, shown, len(shown), components, len(components), pixels, count, hidden)
+        pixels, chosen, found = pixels[: count[0]], hidden >= least, numpy.zeros(len(shown), dtype=bool)
+        if not chosen.any():
+            return found
+        for rows, some in self:
+            wide, own = self.rows(rows, BESIDE), pixels[slice(*numpy.searchsorted(pixels, (some.start, some.stop)))]
+            mask = self.painted(wide, shown=True), wide.start * self.width, wide.stop - wide.start, self.width
+            _AWAY(own, len(own), places, owners, components, chosen, len(components), *mask, BESIDE, found)
+        return found
+
 
 def _halos(bands: _Bands, half: int, least: float) -> Iterator[Tuple[numpy.ndarray, _Around]]:
     """For each component that has so many pixels away from the sources that stand on them, which of the pixels of the
     sources' nodes it has, and what lies around these away from sources.
     """
-    parts, away = bands.parts, bands.away()
-    owner = parts.components[parts.owners]
-    many = numpy.flatnonzero(numpy.bincount(owner[away], minlength=1) >= least)
-    node = numpy.cumsum(parts.shown) - 1 if many.size else numpy.zeros(0, dtype="i8")
+    parts, away = bands.parts, bands.away(least)
+    many = numpy.flatnonzero(numpy.bincount(parts.components[parts.owners[away]], minlength=1) >= least)
+    if not many.size:
+        return
+    owner, node = parts.components[parts.owners], numpy.cumsum(parts.shown) - 1
     for number in many.tolist():
         own = numpy.flatnonzero(owner == number)
         rows, columns = rows_and_columns(parts.places[own], bands.width)

@@ -289,6 +289,25 @@ def test_pixels_near_those_of_sources(both, width, part):
     assert all(same(*them) for them in zip(*both(made)))
 
 
+@pytest.mark.parametrize("least", [1, 3, 40])
+def test_pixels_away_from_sources(both, least):
+    """Of components that have so many; others may have none."""
+    rng, numbers = numpy.random.default_rng(least), numpy.zeros((300, 61), dtype="i4")
+    for part in (0, 0.01, 0.5, 1):
+        places = numpy.flatnonzero(rng.random(numbers.shape) < part)
+        owners, components = (places // 700 + 1).astype("i4"), numpy.arange(28) // 3
+        parts = pieces.Parts(None, places, owners, rng.random(len(places)) < (part == 1) * 0.03, components)
+
+        def made():
+            away = cleaning._Bands(numbers, parts).away(least)
+            of = components[owners]
+            many = numpy.bincount(of[away], minlength=28) >= least
+            return away & many[of]
+
+        one, other = both(made)
+        assert same(one, other) and one.any() == (part > (0.01 if least > 3 else 0))
+
+
 # ---- all of it
 
 
