@@ -25,6 +25,8 @@ FIRST, REACH, NEAR = 8.0, 6.0, 4.0
 # How many radii are less.
 SMALL = int(numpy.searchsorted(RADII, NEAR))
 
+# An image, its height and width; how many centres there are, and these, columns and rows.
+_CENTRED = Loop("centred", array("f4"), whole, whole, whole, array("f8"), array("f8"))
 # An image, its map of sources, what is undefined, height and width; the sources' count, places and numbers; the radii,
 # and how many of them are small; the light, and which sources don't stand alone.
 _WITHIN = Loop(
@@ -74,10 +76,19 @@ def _growth(image: numpy.ndarray, undefined: numpy.ndarray, limit: float) -> num
         inside &= (sources[name] > RADII[-1]) & (sources[name] < side - 1 - RADII[-1])
     numbers = numpy.flatnonzero(inside)
     numbers = numbers[numpy.argsort(-sources["flux"][numbers], kind="stable")][:MOST]
-    x, y, _ = sep.winpos(image, sources["x"][numbers], sources["y"][numbers], numpy.full(len(numbers), 1.0))
+    x, y = _centred(image, sources["x"][numbers], sources["y"][numbers])
     if _WITHIN and image.dtype == "f4":
         return _by_loop(image, segments, undefined, numbers, x, y)
     return _by_sep(image, segments, undefined, sources[numbers], numbers, x, y)
+
+
+def _centred(image: numpy.ndarray, x: numpy.ndarray, y: numpy.ndarray) -> Tuple[numpy.ndarray, numpy.ndarray]:
+    """The centres of sources under a Gaussian window with a deviation of one pixel, from these on."""
+    if _CENTRED and image.dtype == "f4":
+        x, y = (numpy.array(it, dtype="f8") for it in (x, y))
+        _CENTRED(numpy.ascontiguousarray(image), *image.shape, len(x), x, y)
+        return x, y
+    return sep.winpos(image, x, y, numpy.full(len(x), 1.0))[:2]
 
 
 def _by_loop(

@@ -142,6 +142,27 @@ def test_the_loop_sums_as_sep_does(monkeypatch, share):
 
 @pytest.mark.skipif(not loops.library(), reason="the loops aren't compiled")
 @pytest.mark.parametrize("seed", range(4))
+def test_centres_move_as_by_sep(monkeypatch, seed):
+    rng, shape = numpy.random.default_rng(seed), [(90, 70), (300, 300), (3, 50), (1, 1)][seed]
+    for image in (
+        rng.uniform(0, 1, shape),
+        rng.normal(0, 1, shape),
+        rng.normal(0, 1, shape) * 10.0 ** rng.integers(-9, 9),
+    ):
+        image = (image + rng.uniform(0, 1)).astype("f4")
+        x, y = (rng.uniform(-9, side + 9, 3000) for side in shape[::-1])
+        # At the corners, the sides and the centres of pixels, and where there is no place.
+        x[::7], y[::5] = numpy.round(2 * x[::7]) / 2, numpy.round(4 * y[::5]) / 4
+        x[:5] = numpy.nan, numpy.inf, -3e9, 1e300, 3e9
+        one = pointlike._centred(image, x, y)
+        with monkeypatch.context() as patch:
+            patch.setattr(loops, "library", lambda: None)
+            other = pointlike._centred(image, x, y)
+        assert all(numpy.array_equal(*both, equal_nan=True) for both in zip(one, other))
+
+
+@pytest.mark.skipif(not loops.library(), reason="the loops aren't compiled")
+@pytest.mark.parametrize("seed", range(4))
 def test_circles_anywhere_in_an_image(monkeypatch, seed):
     rng = numpy.random.default_rng(seed)
     image = (rng.normal(0, 1, (70, 90)) * 10.0 ** rng.integers(-6, 7, (70, 90))).astype("f4")
