@@ -6,6 +6,7 @@ mean over 3 by 3 pixels lies three deviations of such means off, and those five 
 neither comes in steps on images of whole numbers, and a crowd of stars hardly moves them.
 """
 import dataclasses
+import functools
 from typing import Any, Callable, Iterator, List, Optional, Tuple, Union
 
 import numpy
@@ -182,6 +183,7 @@ def between(grid: numpy.ndarray, mesh: int, rows: slice, columns: slice) -> nump
     return pixels.reshape(len(low), -1)[:, offset : offset + shape[1]]
 
 
+@functools.lru_cache(maxsize=16)
 def _parts(mesh: int) -> numpy.ndarray:
     """Which parts of the way to the next centre the pixels lie from the one before."""
     return ((numpy.arange(mesh) + (0.5 if mesh % 2 == 0 else 0)) / mesh).astype("f4")
