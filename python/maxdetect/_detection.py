@@ -41,7 +41,7 @@ __all__ = ["TILE", "Detector", "Field", "Settings", "sources"]
 # So many rows of a window are prepared at a time: with those around them that count too, as many as are read at once.
 ROWS = 240
 # How far a tile's window reaches beyond its core at first, in pixels.
-MARGIN = 64
+MARGIN = 48
 # How many neighbours a pixel has.
 CONNECT = 8
 # How many seconds a thread that works beside others holds Python's lock where one waits for it: with Python's own
