@@ -74,7 +74,7 @@ def test_rows_are_read_and_written_some_at_a_time(here, monkeypatch, stars):
 
 
 def test_the_next_window_is_prepared_while_the_program_works(monkeypatch, stars):
-    """The program runs once at a time, and another thread is at work meanwhile."""
+    """Programs look at two tiles at once, and another thread is at work meanwhile."""
     field = detection.Field(ArrayPlane(stars[0]), detection.Settings(tile=90))
     whole = detection.sources(detection.Field(ArrayPlane(stars[0]), detection.Settings()))
     running, together, threads, answered = [], [], set(), kernel.answered
@@ -91,5 +91,5 @@ def test_the_next_window_is_prepared_while_the_program_works(monkeypatch, stars)
 
     monkeypatch.setattr(kernel, "answered", watched)
     tiled = detection.sources(field)
-    assert set(together) == {1} and len(threads) == 2
+    assert max(together) == 2 and len(threads) == 3
     assert (tiled["NUMBER"] == whole["NUMBER"]).all() and (tiled["FLUX_ISO"] == whole["FLUX_ISO"]).all()
