@@ -245,8 +245,8 @@ def _meta(detector: Detector, skies: "_Skies", found: _Found) -> Dict[str, Any]:
 
 @contextlib.contextmanager
 def _taking_turns(detector: Detector, executor: Optional[concurrent.futures.Executor]):
-    """What looks at tiles. In the place of two threads there are three: programs look at two tiles while Python prepares
-    one or takes one up, which it does for one at a time, so that memory has room for all.
+    """What looks at tiles. In the place of two threads there are three: programs look at two tiles while Python
+    prepares one or takes one up, which it does for one at a time, so that memory has room for all.
     """
     with contextlib.ExitStack() as stack:
         stack.callback(spare.give_back)
