@@ -15,6 +15,7 @@ import signal
 import sys
 import tempfile
 import threading
+from multiprocessing.reduction import ForkingPickler
 from typing import IO, Any, Callable, Iterator, NamedTuple, NoReturn, Optional, Tuple
 
 from ._errors import Mistake
@@ -142,19 +143,24 @@ class Processes(concurrent.futures.Executor):
             self._files.put(file)
 
     def _ask(self, work: Callable, given: tuple) -> Any:
+        # What can't be sent takes no worker.
+        message = ForkingPickler.dumps((work, given))
         worker = self._free.get()
         if worker is None:
             self._free.put(None)
             raise Lost
         try:
-            worker.connection.send((work, given))
+            worker.connection.send_bytes(message)
             done, value = worker.connection.recv()
-        except (EOFError, OSError):
+        except BaseException as fault:
+            # Nobody knows then what it is at.
             with self._lock:
                 self._left -= 1
                 if not self._left:
                     self._free.put(None)
-            raise Lost from None
+            if isinstance(fault, (EOFError, OSError)):
+                raise Lost from None
+            raise
         self._free.put(worker)
         if not done:
             raise value

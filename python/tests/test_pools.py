@@ -172,6 +172,27 @@ def test_what_comes_in_a_workers_way_comes_through():
         assert pool.submit(max, 1, 2).result() == 2
 
 
+class _Unreadable:
+    """What can be sent, and not taken up."""
+
+    def __reduce__(self):
+        return int, ("no number",)
+
+
+@pytest.mark.parametrize("count", [1, 2])
+def test_what_can_not_be_sent_or_taken_up_is_told_and_no_worker_is_waited_for(count):
+    with pools.Processes(count) as executor:
+        for _ in range(3):
+            with pytest.raises(Exception, match="[Pp]ickle"):
+                executor.submit(lambda: 1).result(timeout=60)
+        assert executor.submit(abs, -3).result(timeout=60) == 3
+        for _ in range(count):
+            with pytest.raises(ValueError, match="no number"):
+                executor.submit(_Unreadable).result(timeout=60)
+        with pytest.raises(pools.Lost):
+            executor.submit(abs, -3).result(timeout=60)
+
+
 def test_a_worker_that_is_killed():
     with pools.Processes(2) as pool:
         killed = pool.submit(os.kill, pool._workers[0].process.pid, signal.SIGKILL)
