@@ -1,5 +1,6 @@
 /* Rows of an image as they stand in its file, where each number has its highest byte first. */
 #define _XOPEN_SOURCE 700 /* for pread */
+#define _FILE_OFFSET_BITS 64
 #include "loops.h"
 
 #include <errno.h>
