@@ -1,20 +1,21 @@
 """Times `maxcat` beside one script of SEP and beside Source Extractor's program, where that is installed, and a large
 image's memory, in one run; prints a table in Markdown.
 
-usage: /usr/bin/python3 bench/speed.py MAXDETECT MAXWIDE [--runs N] [--workers N] [--side SIDE] [--large [SIDE]] [--only-large]
-                                               [--many N]
+usage: /usr/bin/python3 bench/speed.py MAXDETECT MAXWIDE [--runs N] [--workers N] [--side SIDE] [--pixels-a-star N]
+           [--large [SIDE]] [--only-large] [--many N]
 
 MAXDETECT and MAXWIDE are the built programs; the package's loops in C are compiled first, where a compiler is, and
-Python keeps the package's bytecode, as where it is installed. The
-image is a star field of 4096 x 4096 floating-point numbers with 42,000 stars, of which some 33,000 are found. The
-script of SEP reads it, estimates the background, extracts with the same threshold and least area, measures isophotal
-and Kron fluxes with errors, a circle and half-light radii, and writes a catalogue in FITS. Source Extractor has that
-threshold and area too, and measures these fluxes, ellipses, half-light radii, windowed centres with errors, and sky
-coordinates. The least time of N runs counts (3 if left out), by the clock and in processor seconds, of which a busy
-machine takes less note; the share is of the first row's seconds by the clock. Memory is the most that all processes of a
-run held together, mapped files among it. With --side the image has another side, and with --large an image of SIDE x
-SIDE pixels (10,000 if no number follows) goes through `maxcat` as well; with --many N images of 512 x 512 pixels go
-through it in one call, and through Source Extractor in N. Run it with nothing else running.
+Python keeps the package's bytecode, as where it is installed. The image is a star field of 4096 x 4096 floating-point
+numbers with 42,000 stars, of which some 33,000 are found. The script of SEP reads it, estimates the background,
+extracts with the same threshold and least area, measures isophotal and Kron fluxes with errors, a circle and
+half-light radii, and writes a catalogue in FITS. Source Extractor has that threshold and area too, and measures these
+fluxes, ellipses, half-light radii, windowed centres with errors, and sky coordinates. The least time of N runs counts
+(3 if left out), by the clock and in processor seconds, of which a busy machine takes less note; the share is of the
+first row's seconds by the clock. Memory is the most that all processes of a run held together, mapped files among it.
+With --side the image has another side, with --pixels-a-star more or fewer stars (400 pixels for each, if it isn't
+given), and with --large an image of SIDE x SIDE pixels (10,000 if no number follows) goes through `maxcat` as well;
+with --many N images of 512 x 512 pixels go through it in one call, and through Source Extractor in N. Run it with
+nothing else running.
 """
 import argparse
 import contextlib
@@ -96,8 +97,8 @@ def stars(image, rng, count):
         part += peak * numpy.exp(-distance / (2 * sigma**2))
 
 
-def field(path, side):
-    """A star field with NaN at one pixel in 5,000 and a WCS, made and written in bands of 1,024 rows."""
+def field(path, side, pixels=400):
+    """A field with a star for so many pixels, NaN at one in 5,000 and a WCS, made and written in bands of 1,024 rows."""
     rng = numpy.random.default_rng(1)
     header = fits.Header(
         {"CTYPE1": "RA---TAN", "CTYPE2": "DEC--TAN", "CRVAL1": 150.0, "CRVAL2": 2.0, "BUNIT": "adu", "GAIN": 1.0}
@@ -107,7 +108,7 @@ def field(path, side):
     image = numpy.lib.format.open_memmap(f"{path}.npy", mode="w+", dtype="f4", shape=(side, side))
     for top in range(0, side, 1024):
         band = rng.normal(1032, 13, (min(1024, side - top), side)).astype("f4")
-        stars(band, rng, band.size // 400)
+        stars(band, rng, band.size // pixels)
         band.ravel()[rng.integers(0, band.size, band.size // 5000)] = numpy.nan
         image[top : top + 1024] = band
     fits.PrimaryHDU(image, header).writeto(path)
@@ -183,7 +184,7 @@ class Printed:
 def one_image(rows, folder, given, maxcat):
     """The rows of one image."""
     image, label = folder / "image.fits", f"{given.side} x {given.side}"
-    field(image, given.side)
+    field(image, given.side, given.pixels_a_star)
     rows.first = None
     if extractor(folder):
         rows.add(label, "Source Extractor", [[*extractor(folder), image]])
@@ -221,6 +222,7 @@ def main():
     parser.add_argument("--large", type=int, nargs="?", const=10000)
     parser.add_argument("--only-large", action="store_true")
     parser.add_argument("--side", type=int, default=4096)
+    parser.add_argument("--pixels-a-star", type=int, default=400)
     parser.add_argument("--many", type=int)
     given = parser.parse_args()
     subprocess.run([TOP / "scripts" / "loops"], check=False)
