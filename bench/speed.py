@@ -98,7 +98,7 @@ def stars(image, rng, count):
 
 
 def field(path, side, pixels=400):
-    """A field with a star for so many pixels, NaN at one in 5,000 and a WCS, made and written in bands of 1,024 rows."""
+    """A field with a star for so many pixels, NaN at one in 5,000 and a WCS, written in bands of 1,024 rows."""
     rng = numpy.random.default_rng(1)
     header = fits.Header(
         {"CTYPE1": "RA---TAN", "CTYPE2": "DEC--TAN", "CRVAL1": 150.0, "CRVAL2": 2.0, "BUNIT": "adu", "GAIN": 1.0}
