@@ -104,16 +104,15 @@ static inline int64_t subpixels_within(const struct subpixels *across, const str
     return -(missed[0] + missed[1]);
 }
 
-/* Which part of a pixel some subpixels are, as they are added one by one. */
+/* Which part of a pixel some subpixels are. */
 struct parts {
     double of[SUBPIXELS * SUBPIXELS + 1];
 };
 
 static struct parts parts_of_pixels(void)
 {
-    struct parts parts = {{0}};
-    for (int count = 1; count <= SUBPIXELS * SUBPIXELS; count++)
-        parts.of[count] = parts.of[count - 1] + (1.0 / SUBPIXELS) * (1.0 / SUBPIXELS);
+    struct parts parts;
+    find_parts(SUBPIXELS, parts.of);
     return parts;
 }
 

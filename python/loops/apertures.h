@@ -66,6 +66,14 @@ static inline int another_source(int32_t owner, int32_t number)
     return (owner > 0) & (owner != number);
 }
 
+/* Which part of a pixel are 0, 1 and more of its subpixels, as they are added one by one, with so many along a side. */
+static inline void find_parts(int side, double *parts)
+{
+    parts[0] = 0;
+    for (int count = 1; count <= side * side; count++)
+        parts[count] = parts[count - 1] + (1.0 / side) * (1.0 / side);
+}
+
 /* An ellipse by its equation: it holds what lies right and down of its centre where xx right^2 + yy down^2 + xy right
  * down is less than its radius squared. */
 struct ellipse {

@@ -15,16 +15,15 @@ struct lines {
     double off[SIDE], squares[SIDE][LANES];
 };
 
-/* Which part of a pixel some subpixels are, as they are added one by one. */
+/* Which part of a pixel some subpixels are. */
 struct parts {
     double of[SUBPIXELS * SUBPIXELS + 1];
 };
 
 static struct parts parts_of_pixels(void)
 {
-    struct parts parts = {{0}};
-    for (int count = 1; count <= SUBPIXELS * SUBPIXELS; count++)
-        parts.of[count] = parts.of[count - 1] + (1.0 / SUBPIXELS) * (1.0 / SUBPIXELS);
+    struct parts parts;
+    find_parts(SUBPIXELS, parts.of);
     return parts;
 }
 

@@ -82,6 +82,20 @@ def add_star(image, x, y, flux, width=3.0):
     image += flux * 2 / (numpy.pi * core**2) * (1 + ((columns - x) ** 2 + (rows - y) ** 2) / core**2) ** -3
 
 
+@pytest.fixture(name="both")
+def _both(monkeypatch):
+    """What a function gives with the loops in C and without."""
+    from maxdetect import _loops as loops
+
+    def both(made, *arguments):
+        with_them = made(*arguments)
+        with monkeypatch.context() as without, numpy.errstate(all="ignore"):
+            without.setattr(loops, "library", lambda: None)
+            return with_them, made(*arguments)
+
+    return both
+
+
 @pytest.fixture(scope="session")
 def stars():
     """A field of 256 x 256 pixels with 25 stars on a sky of 900 electrons, and the stars' places and fluxes."""

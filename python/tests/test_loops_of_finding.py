@@ -19,19 +19,6 @@ THRESHOLD = 40
 SHAPES = [(1, 1), (1, 700), (90, 1), (2, 3), (5, 5), (40, 300), (67, 523), (140, 256)]
 
 
-@pytest.fixture(name="both")
-def _both(monkeypatch):
-    """What a function gives with the loops and without."""
-
-    def both(made, *arguments):
-        with_them = made(*arguments)
-        with monkeypatch.context() as without, numpy.errstate(all="ignore"):
-            without.setattr(loops, "library", lambda: None)
-            return with_them, made(*arguments)
-
-    return both
-
-
 def same(one, other):
     """Arrays have the same type and the same bits; NaN stands for NaN."""
     return one.dtype == other.dtype and numpy.array_equal(one, other, equal_nan=one.dtype.kind == "f")

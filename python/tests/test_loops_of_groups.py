@@ -11,19 +11,6 @@ with_loops = pytest.mark.skipif(not loops.library(), reason="scripts/loops has c
 LEAST, MOST = -(2**31), 2**31 - 1
 
 
-@pytest.fixture(name="both")
-def _both(monkeypatch):
-    """What a function gives with the loops and without."""
-
-    def both(made, *arguments):
-        with_them = made(*arguments)
-        with monkeypatch.context() as without:
-            without.setattr(loops, "library", lambda: None)
-            return with_them, made(*arguments)
-
-    return both
-
-
 def meetings(rng, count, times, levels):
     """Meetings of some parts, each two of them once, from the greatest number down."""
     pairs = numpy.sort(rng.integers(1, count + 1, (times, 2)), axis=1)

@@ -12,19 +12,6 @@ pytestmark = pytest.mark.skipif(not loops.library(), reason="scripts/loops has c
 WHOLE = Box(0, 500, 0, 700)
 
 
-@pytest.fixture(name="both")
-def _both(monkeypatch):
-    """What a function gives with the loops and without."""
-
-    def both(made, *arguments):
-        with_them = made(*arguments)
-        with monkeypatch.context() as without:
-            without.setattr(loops, "library", lambda: None)
-            return with_them, made(*arguments)
-
-    return both
-
-
 def parts_of(shape, count, part, seed):
     """Sources that have pixels anywhere in a window, some of them none, and what is near each other as a component."""
     rng = numpy.random.default_rng(seed)

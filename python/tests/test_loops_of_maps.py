@@ -12,19 +12,6 @@ pytestmark = pytest.mark.skipif(not loops.library(), reason="scripts/loops has c
 TYPES = ["u1", ">i2", ">i4", ">i8", ">f4", ">f8"]
 
 
-@pytest.fixture(name="both")
-def _both(monkeypatch):
-    """What a function gives with the loops and without."""
-
-    def both(made, *arguments):
-        with_them = made(*arguments)
-        with monkeypatch.context() as without:
-            without.setattr(loops, "library", lambda: None)
-            return with_them, made(*arguments)
-
-    return both
-
-
 # ---- maps
 
 

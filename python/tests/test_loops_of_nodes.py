@@ -9,19 +9,6 @@ LEAST, MOST = numpy.iinfo("i4").min, numpy.iinfo("i4").max
 SHAPES = [(1, 1), (1, 90), (70, 1), (5, 5), (40, 130)]
 
 
-@pytest.fixture(name="both")
-def _both(monkeypatch):
-    """What a function gives with the loops and without."""
-
-    def both(made, *arguments):
-        with_them = made(*arguments)
-        with monkeypatch.context() as without:
-            without.setattr(loops, "library", lambda: None)
-            return with_them, made(*arguments)
-
-    return both
-
-
 def same(one, other):
     return one.dtype == other.dtype and one.tolist() == other.tolist()
 

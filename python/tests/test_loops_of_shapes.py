@@ -28,19 +28,6 @@ class Owned(NamedTuple):
         return numpy.bincount(self.numbers, weights, self.length).astype("f8")
 
 
-@pytest.fixture(name="both")
-def _both(monkeypatch):
-    """What a function gives with the loops and without."""
-
-    def both(made, *arguments):
-        with_them = made(*arguments)
-        with monkeypatch.context() as without, numpy.errstate(all="ignore"):
-            without.setattr(loops, "library", lambda: None)
-            return with_them, made(*arguments)
-
-    return both
-
-
 def same(one, other):
     """Arrays have the same type and the same bits; NaN stands for NaN."""
     one_bits, its = (numpy.where(numpy.isnan(it), numpy.nan, it).tobytes() for it in (one, other))
