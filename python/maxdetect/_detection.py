@@ -127,7 +127,7 @@ def sources(
     bands: Optional[Dict[str, Field]] = None,
     told: Optional[Callable] = None,
     progress: Callable[[int], None] = lambda count: None,
-    meanwhile: Callable[[], None] = lambda: None,
+    meanwhile: Optional[Callable[[], None]] = None,
     program: Optional[kernel.Path] = None,
 ) -> Rows:
     """The sources of a field with their photometry, in columns and rows of the image, numbered by their first pixels.
@@ -210,7 +210,7 @@ def _found(
     executor: Optional[concurrent.futures.Executor],
     segments: numpy.ndarray,
     progress: Callable[[int], None],
-    meanwhile: Callable[[], None],
+    meanwhile: Optional[Callable[[], None]],
 ) -> _Found:
     """The sources of all tiles; the map has them."""
     gathered, plan = joining.Gathered(segments, progress), detector.plan

@@ -3,7 +3,7 @@ import concurrent.futures
 import dataclasses
 import itertools
 import os
-from typing import Any, Callable, Iterable, Iterator, Optional
+from typing import Any, Callable, Iterable, Iterator, List, Optional
 
 __all__ = ["each"]
 
@@ -28,30 +28,34 @@ class _Call:
         return self.work(self.item)
 
 
-def _nothing() -> None:
-    """Where nothing is to be done meanwhile."""
-
-
 def each(
     executor: Optional[concurrent.futures.Executor],
     work: Callable,
     items: Iterable,
-    meanwhile: Callable[[], None] = _nothing,
+    meanwhile: Optional[Callable[[], None]] = None,
 ) -> Iterator:
     """What a function gives for each item, in order; a few items ahead are at work in the executor. None: one after
-    the other, here. `meanwhile` is called when the first items are at work, and not where none are at work elsewhere.
+    the other, here. `meanwhile` is called when the first items are at work, twice as many as else, so that there is
+    enough to do as long as nothing is taken; and not where none are at work elsewhere.
     """
     if executor is None:
         yield from map(work, items)
         return
-    waiting, items = [], iter(items)
+    waiting: List[concurrent.futures.Future] = []
+    items, most, submit = iter(items), _in_flight(executor), executor.submit
+
+    def hand_out(count: int) -> None:
+        """Has so many items at work, or waiting for it."""
+        for item in itertools.islice(items, max(0, count - len(waiting))):
+            waiting.append(submit(_Call(work, item)))
+
     try:
-        for item in itertools.islice(items, _in_flight(executor)):
-            waiting.append(executor.submit(_Call(work, item)))
-        meanwhile()
+        hand_out(most if meanwhile is None else 2 * most)
+        if meanwhile is not None:
+            meanwhile()
         while waiting:
             result = waiting.pop(0).result()
-            waiting += [executor.submit(_Call(work, item)) for item in itertools.islice(items, 1)]
+            hand_out(most)
             yield result
     finally:
         for future in waiting:

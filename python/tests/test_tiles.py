@@ -68,6 +68,18 @@ def test_a_pair_with_a_function_is_no_task():
     assert (found[0].levels == found[1].levels).all() and found[0].noise == found[1].noise
 
 
+def test_twice_as_much_is_handed_out_where_nothing_is_taken_for_a_while():
+    pool, counts = InTurn(), []
+    pool._max_workers = 2
+    answers = executors.each(pool, str, range(20), lambda: counts.append(pool.count))
+    for number, answer in enumerate(answers):
+        assert answer == str(number)
+        counts.append(pool.count)
+    assert counts == [8, *[8] * 4, *range(9, 21), *[20] * 4]
+    pool.count = 0
+    assert next(executors.each(pool, str, range(20))) == "0" and pool.count == 5
+
+
 def whole_and_tiled(image, threshold, tile, **options):
     """Tiles give what the whole gives; how many windows were looked at for that."""
     whole, pool = maxdetect.detect(image, threshold, **options), InTurn()
